@@ -1,0 +1,4 @@
+pub mod Lawful
+pub mod Network
+pub mod Routes
+pub mod Tables

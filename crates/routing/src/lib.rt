@@ -1,0 +1,5 @@
+// Networks of the vehicle routing problem with time windows.
+pub mod answers;
+pub mod cells;
+pub mod networks;
+pub mod tables;
