@@ -6,7 +6,7 @@ use crate::cells::Place;
 use crate::cells::Road;
 
 // Places from the depot on, and arcs row by row: the arc from i to j stands at i × (customers + 1) + j.
-#[derive(Clone, Copy)]
+#[derive(Drop)]
 pub struct TableNetwork<'a> {
     pub head: Head,
     pub places: &'a [Place],

@@ -1,0 +1,4 @@
+pub mod Answer
+pub mod Drive
+pub mod Faults
+pub mod Listing

@@ -1,0 +1,6 @@
+// A listing of routes, priced on any network.
+pub mod drive;
+pub mod faults;
+pub mod form;
+pub mod once;
+pub mod vans;
