@@ -54,6 +54,7 @@ begun-at n b j l fine left = ⊎-elim (ends b fine) goes (cases-eq j 0)
         record { route = []; routes = whole .routes; is = ap₂ _∷_ e (whole .is); stops = tt; others = whole .stops }
     ends false fine e =
         absurd (both-ways _ (or-parts _ _ fine .1) (and-from (eqb j 0) true (eq-eqb j 0 e) refl))
+
     goes : (j ≡ 0 → ⊥) → Left n b (j ∷ l)
     goes some =
         let rest = subst (λ x. Left n (not x) l) (ne-eqb j 0 some) left in
@@ -69,3 +70,32 @@ pub formed : (n : ℕ) (b : Bool) (k : ℕ) (l : List ℕ) → misplaced n b k l
 formed n true k [] e = absurd (let z : _≡_ {A = ℕ} 0 1 = cc in omega arith)
 formed n false k [] e = record { routes = []; is = refl; stops = tt }
 formed n b k (j ∷ l) e = let u = unfound _ _ _ e in begun-at n b j l (u .0) (formed n (not (eqb j 0)) (k + 1) l (u .1))
+
+home-fits : (n : ℕ) → breaks n true 0 ≡ false
+home-fits n = or-from _ _ (le-ltb n 0 (omega arith)) refl
+
+stop-fits : (n : ℕ) (b : Bool) (j : ℕ) → In n j → breaks n b j ≡ false
+stop-fits n b j here = or-from _ _ (le-ltb n j (here .1)) (and-left _ _ (ne-eqb j 0 (λ e. omega (arith, here .0))))
+
+past-stop : (n : ℕ) (b : Bool) (k j : ℕ) (l : List ℕ) → In n j → misplaced n true (k + 1) l ≡ None → misplaced n b k (j ∷ l) ≡ None
+past-stop n b k j l here rest =
+    cond-false _ _ _ (stop-fits n b j here) ∙ ap (λ x. misplaced n (not x) (k + 1) l) (ne-eqb j 0 (λ e. omega (arith, here .0))) ∙ rest
+
+begun-fits : (n : ℕ) (route l : List ℕ) → All (In n) route → ((k : ℕ) → 1 ≤ k → misplaced n false k l ≡ None) → (k : ℕ) → misplaced n true k (route ++ (0 ∷ l)) ≡ None
+begun-fits n [] l all after k = cond-false _ _ _ (home-fits n) ∙ after (k + 1) (omega arith)
+begun-fits n (j ∷ route) l all after k = past-stop n true k j (route ++ (0 ∷ l)) (all .0) (begun-fits n route l (all .1) after (k + 1))
+
+route-fits : (n : ℕ) (route l : List ℕ) → Stops n route → ((k : ℕ) → 1 ≤ k → misplaced n false k l ≡ None) → (k : ℕ) → misplaced n false k (route ++ (0 ∷ l)) ≡ None
+route-fits n [] l stops after k = absurd (omega (arith, stops .0))
+route-fits n (j ∷ route) l stops after k = past-stop n false k j (route ++ (0 ∷ l)) (stops .1 .0) (begun-fits n route l (stops .1 .1) after (k + 1))
+
+after-routes : (n : ℕ) (routes : List (List ℕ)) → All (Stops n) routes → (k : ℕ) → 1 ≤ k → misplaced n false k (written routes) ≡ None
+after-routes n [] all k some = cond-false _ _ _ (ne-eqb k 0 (λ e. omega arith))
+after-routes n (route ∷ routes) all k some =
+    ap (misplaced n false k) (written-cons route routes) ∙ route-fits n route (written routes) (all .0) (after-routes n routes (all .1)) k
+
+-- the listing of one or more routes keeps the form
+pub fits : (n : ℕ) (routes : List (List ℕ)) → All (Stops n) routes → 1 ≤ length routes → misplaced n false 0 (written routes) ≡ None
+fits n [] all some = absurd (omega arith)
+fits n (route ∷ routes) all some =
+    ap (misplaced n false 0) (written-cons route routes) ∙ route-fits n route (written routes) (all .0) (after-routes n routes (all .1)) 0

@@ -1,3 +1,6 @@
 pub mod Formed
+pub mod OnWay
+pub mod Orders
+pub mod Plans
 pub mod Steps
 pub mod Visits

@@ -22,15 +22,15 @@ at-most-once before k (j ∷ l) e c some le =
     let u = unfound _ _ _ e in
     ⊎-elim
     (λ same.
-        let none : count j before ≡ 0 = ⊎-elim (λ f. absurd (let z = ltb-false 0 j f in omega arith)) (λ f. let z = ltb-false 0 (count j before) f in omega arith) (and-cases _ _ (u .0)) in
-        let here : count c before ≡ count j before = ap (λ x. count x before) same in
-        let pushed = ap (λ x. count c (before ++ (x ∷ []))) (sym same) ∙ count-push-same c before in
-        let first = ap (λ x. count c (x ∷ l)) (sym same) ∙ count-same c l in
-        omega (arith, at-most-once (before ++ (j ∷ [])) (k + 1) l (u .1) c some (omega arith)))
+    let none : count j before ≡ 0 = ⊎-elim (λ f. absurd (let z = ltb-false 0 j f in omega arith)) (λ f. let z = ltb-false 0 (count j before) f in omega arith) (and-cases _ _ (u .0)) in
+    let here : count c before ≡ count j before = ap (λ x. count x before) same in
+    let pushed = ap (λ x. count c (before ++ (x ∷ []))) (sym same) ∙ count-push-same c before in
+    let first = ap (λ x. count c (x ∷ l)) (sym same) ∙ count-same c l in
+    omega (arith, at-most-once (before ++ (j ∷ [])) (k + 1) l (u .1) c some (omega arith)))
     (λ apart.
-        let pushed = count-push-other c j before apart in
-        let first = count-other c j l apart in
-        omega (arith, at-most-once (before ++ (j ∷ [])) (k + 1) l (u .1) c some (omega arith)))
+    let pushed = count-push-other c j before apart in
+    let first = count-other c j l apart in
+    omega (arith, at-most-once (before ++ (j ∷ [])) (k + 1) l (u .1) c some (omega arith)))
     (cases-eq c j)
 
 pub never-repeated : (before : List ℕ) (k : ℕ) (l : List ℕ) → ((c : ℕ) → 1 ≤ c → count c before + count c l ≤ 1) → repeated before k l ≡ None
@@ -62,6 +62,6 @@ count-written c some [] = refl
 count-written c some (route ∷ routes) =
     omega (arith, count-append c (route ++ (0 ∷ [])) (written routes), count-push-other c 0 route (λ e. omega arith), count-append c route (visits routes), count-written c some routes)
 
-pub count-above : (n c : ℕ) (xs : List ℕ) → All (In n) xs → n < c → count c xs ≡ 0
-count-above n c [] all above = refl
-count-above n c (x ∷ xs) all above = count-other c x xs (λ e. omega (arith, all .0)) ∙ count-above n c xs (all .1) above
+pub count-none : (c : ℕ) (xs : List ℕ) → All (λ x. c ≡ x → ⊥) xs → count c xs ≡ 0
+count-none c [] all = refl
+count-none c (x ∷ xs) all = count-other c x xs (all .0) ∙ count-none c xs (all .1)

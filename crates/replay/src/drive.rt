@@ -32,22 +32,47 @@ fn step<N: Network>(network: &N, van: Van, index: usize, to: u8) -> Result<Van, 
     }
     let cost = van.cost + cost;
     if to == 0 {
-        return Ok(Van { at: 0, ready: place.opening, load: 0, cost, routes: van.routes + 1 });
+        return Ok(Van {
+            at: 0,
+            ready: place.opening,
+            load: 0,
+            cost,
+            routes: van.routes + 1,
+        });
     }
-    Ok(Van { at: to, ready: start + place.service, load, cost, routes: van.routes })
+    Ok(Van {
+        at: to,
+        ready: start + place.service,
+        load,
+        cost,
+        routes: van.routes,
+    })
 }
 
 // What the listing's routes cost and how many they are, or the first arc that cannot be driven.
-fn drive<N: Network>(network: &N, listing: &[u8]) -> Result<Priced, ListingFault>
+pub(crate) fn drive<N: Network>(network: &N, listing: &[u8]) -> Result<Priced, ListingFault>
     requires { ⌜ length (now listing) ≤ 120 ⌝ }
     ensures { λ r. ⌜ r ≡ drive-answer (meaning (now (network .entry))) (now (listing .entry)) ⌝ }
 {
     let Some(depot) = network.place(0) else {
-        return Err(ListingFault::NoArc { from: 0, to: 0, index: 0 });
+        return Err(ListingFault::NoArc {
+            from: 0,
+            to: 0,
+            index: 0,
+        });
     };
-    let mut van = Van { at: 0, ready: depot.opening, load: 0, cost: 0, routes: 0 };
+    let mut van = Van {
+        at: 0,
+        ready: depot.opening,
+        load: 0,
+        cost: 0,
+        routes: 0,
+    };
     for (k, j) in listing.iter().enumerate() {
         van = step(network, van, k, *j)?;
     }
-    Ok(Priced { cost: van.cost, routes: van.routes })
+    Ok(Priced {
+        cost: van.cost,
+        routes: van.routes,
+    })
 }

@@ -27,13 +27,48 @@ impl ListingFault {
         ensures { λ r. ⌜ r ≡ listing-denial (now (self .entry)) ⌝ }
     {
         match *self {
-            ListingFault::Misplaced { index } => Denial { number: 10, from: 0, to: 0, place: index },
-            ListingFault::Repeated { index } => Denial { number: 11, from: 0, to: 0, place: index },
-            ListingFault::Missing { customer } => Denial { number: 12, from: 0, to: 0, place: customer as usize },
-            ListingFault::NoArc { from, to, index } => Denial { number: 13, from, to, place: index },
-            ListingFault::TooLate { from, to, index } => Denial { number: 14, from, to, place: index },
-            ListingFault::TooHeavy { from, to, index } => Denial { number: 15, from, to, place: index },
-            ListingFault::FleetSize { routes } => Denial { number: 16, from: 0, to: 0, place: routes },
+            ListingFault::Misplaced { index } => Denial {
+                number: 10,
+                from: 0,
+                to: 0,
+                place: index,
+            },
+            ListingFault::Repeated { index } => Denial {
+                number: 11,
+                from: 0,
+                to: 0,
+                place: index,
+            },
+            ListingFault::Missing { customer } => Denial {
+                number: 12,
+                from: 0,
+                to: 0,
+                place: customer as usize,
+            },
+            ListingFault::NoArc { from, to, index } => Denial {
+                number: 13,
+                from,
+                to,
+                place: index,
+            },
+            ListingFault::TooLate { from, to, index } => Denial {
+                number: 14,
+                from,
+                to,
+                place: index,
+            },
+            ListingFault::TooHeavy { from, to, index } => Denial {
+                number: 15,
+                from,
+                to,
+                place: index,
+            },
+            ListingFault::FleetSize { routes } => Denial {
+                number: 16,
+                from: 0,
+                to: 0,
+                place: routes,
+            },
         }
     }
 }

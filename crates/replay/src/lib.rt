@@ -3,4 +3,5 @@ pub mod drive;
 pub mod faults;
 pub mod form;
 pub mod once;
+pub mod pricing;
 pub mod vans;

@@ -23,8 +23,7 @@ loop-k-again g c =
     let s = c .loop-k in
     let xs = c .args .listing .now in
     let more = at-drop-more (driven m (s .van) (s .k)) xs (s .k) 0 (omega arith) in
-    let told = c .in-Continue-van .ensures tt in
-    (
+    let told = c .in-Continue-van .ensures tt in (
       omega arith,
       ap (λ r. followed r (λ w. driven m w (s .k + 1) (drop (s .k + 1) xs))) (told .value) ∙ sym more ∙ s .inv .1,
       told .bounds .0,

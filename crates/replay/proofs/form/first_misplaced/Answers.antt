@@ -28,10 +28,10 @@ returns-then-begun c =
     let end = at-drop-all (misplaced (c .args .customers) (s .begun) (s .k)) (c .args .listing .now) (s .k) (omega arith) in
     let last : c .saturating-sub .result ≡ s .k - 1 = omega (arith, c .saturating-sub .ensures) in
     let ended : (s .begun || eqb (s .k) 0) ≡ true =
-        elim (c .then-begun .came) [
-          then-begun·by·then-begun w ↦ or-left _ _ (w .if-begun .taken)
-        | then-begun·by·else-begun·then-is-empty w ↦ or-right _ _ (eq-eqb (s .k) 0 (omega (arith, eqb-true _ 0 (sym (w .is-empty .ensures) ∙ w .if-is-empty .taken))))
-        ] in
+    elim (c .then-begun .came) [
+      | then-begun·by·then-begun w ↦ or-left _ _ (w .if-begun .taken)
+      | then-begun·by·else-begun·then-is-empty w ↦ or-right _ _ (eq-eqb (s .k) 0 (omega (arith, eqb-true _ 0 (sym (w .is-empty .ensures) ∙ w .if-is-empty .taken))))
+    ] in
     ap Some last ∙ sym (cond-true _ _ _ ended) ∙ sym end ∙ s .inv .1
 
 pub returns : need.returns

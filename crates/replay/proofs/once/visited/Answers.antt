@@ -46,11 +46,10 @@ loop-k-again c =
     let front = take-more xs (s .k) 0 (omega arith) in
     let more = at-drop-more (repeated (take (s .k) xs) (s .k)) xs (s .k) 0 (omega arith) in
     let new : (ltb 0 x && ltb 0 (count x (take (s .k) xs))) ≡ false =
-        elim (c .else-customer-gt0 .came) [
-          else-customer-gt0·by·then-customer-gt0·else-seen-customer w ↦ and-right _ _ (sym (s .inv .3 x (w .if-customer-gt0 .taken) small) ∙ w .if-seen-customer .left)
-        | else-customer-gt0·by·else-customer-gt0 w ↦ and-left _ _ (le-ltb 0 x (w .if-customer-gt0 .left))
-        ] in
-    (
+    elim (c .else-customer-gt0 .came) [
+      | else-customer-gt0·by·then-customer-gt0·else-seen-customer w ↦ and-right _ _ (sym (s .inv .3 x (w .if-customer-gt0 .taken) small) ∙ w .if-seen-customer .left)
+      | else-customer-gt0·by·else-customer-gt0 w ↦ and-left _ _ (le-ltb 0 x (w .if-customer-gt0 .left))
+    ] in (
       omega arith,
       length-set (s .seen) x true ∙ s .inv .1,
       ap (λ l. repeated l (s .k + 1) (drop (s .k + 1) xs)) front ∙ sym (cond-false _ _ _ new) ∙ sym more ∙ s .inv .2,
