@@ -1,0 +1,9 @@
+pub mod Faults
+pub mod Tokens
+pub mod Judging
+pub mod Numbers
+pub mod Arcs
+pub mod Lines
+pub mod Tables
+pub mod Cases
+pub mod Plans
