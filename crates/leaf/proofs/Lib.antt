@@ -1,0 +1,4 @@
+pub mod AlongRoute
+pub mod Best
+pub mod Bounds
+pub mod Sums
