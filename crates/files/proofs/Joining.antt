@@ -38,8 +38,7 @@ module _ (case plan listing : List ℕ) (m : Meaning) (network : CaseNetwork cas
 
   pub granted : (p : Priced) → Ok p ≡ price-answer m listing → Prices m listing (Ok p) → FilesPriced case plan (Ok p)
   granted p e prices =
-      let found = prices .priced-is-plan p refl in
-      (
+      let found = prices .priced-is-plan p refl in (
         record { network = m; is-network = network; listing = listing; is-listing = lists; answer = ap listing-answer e },
         record { network = m; is-network = network; routes = found .0; is-listing = lists ∙ ap Ok (found .1); is-plan = found .2; price = found .3 },
       )

@@ -33,7 +33,12 @@ pub impl From<ListingFault> for FileFault as ListingFileFault {
 fn text_denial(fault: TextFault) -> Denial
     ensures { λ r. ⌜ r ≡ text-denial fault ⌝ }
 {
-    Denial { number: fault.number(), from: 0, to: 0, place: fault.place() }
+    Denial {
+        number: fault.number(),
+        from: 0,
+        to: 0,
+        place: fault.place(),
+    }
 }
 
 impl FileFault {

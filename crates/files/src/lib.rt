@@ -1,4 +1,5 @@
 // From the bytes of the files to the line that is printed.
 pub mod faults;
+pub mod judging;
 pub mod lines;
 pub mod pricing;

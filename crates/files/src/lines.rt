@@ -20,8 +20,18 @@ pub impl fmt::Display for Part as PartDisplay {
 
 #[derive(Clone, Copy)]
 pub enum Line {
-    Priced { cost: u32, routes: usize },
-    Fault { number: u8, part: Part, node: usize, from: u8, to: u8, place: usize },
+    Priced {
+        cost: u32,
+        routes: usize,
+    },
+    Fault {
+        number: u8,
+        part: Part,
+        node: usize,
+        from: u8,
+        to: u8,
+        place: usize,
+    },
 }
 
 pub impl fmt::Display for Line as LineDisplay {
@@ -30,8 +40,18 @@ pub impl fmt::Display for Line as LineDisplay {
     fn fmt<W: fmt::Write>(&self, f: &mut fmt::Formatter<W>) -> fmt::Result {
         match *self {
             Line::Priced { cost, routes } => write!(f, "priced {cost} routes {routes}"),
-            Line::Fault { number, part, node, from, to, place } => {
-                write!(f, "fault {number} {part} node {node} arc {from} {to} place {place}")
+            Line::Fault {
+                number,
+                part,
+                node,
+                from,
+                to,
+                place,
+            } => {
+                write!(
+                    f,
+                    "fault {number} {part} node {node} arc {from} {to} place {place}"
+                )
             }
         }
     }
@@ -42,11 +62,21 @@ pub fn line_for(answer: Result<Priced, FileFault>) -> Line
     ensures { λ r. ⌜ r ≡ line-of answer ⌝ }
 {
     match answer {
-        Ok(priced) => Line::Priced { cost: priced.cost, routes: priced.routes },
+        Ok(priced) => Line::Priced {
+            cost: priced.cost,
+            routes: priced.routes,
+        },
         Err(fault) => {
             let denial = fault.denial();
             let part = fault.part();
-            Line::Fault { number: denial.number, part, node: 0, from: denial.from, to: denial.to, place: denial.place }
+            Line::Fault {
+                number: denial.number,
+                part,
+                node: 0,
+                from: denial.from,
+                to: denial.to,
+                place: denial.place,
+            }
         }
     }
 }

@@ -44,7 +44,12 @@ fn price_over(
 pub fn price_files(case: &[u8], plan: &[u8]) -> Result<Priced, FileFault>
     ensures { λ r. ⌜ FilesPriced (now (case .entry)) (now (plan .entry)) r ⌝ }
 {
-    let nowhere = Place { load: 0, opening: 0, closing: 0, service: 0 };
+    let nowhere = Place {
+        load: 0,
+        opening: 0,
+        closing: 0,
+        service: 0,
+    };
     let mut places = [nowhere; 61];
     let mut arcs: [Option<Road>; 3721] = [None; 3721];
     let mut listing = [0; 120];

@@ -75,7 +75,7 @@ module _ (m : Meaning) (lawful : Limits m) (depot : Place) (depot-is : m .place 
     reached-is : q ≡ Some reached
     early : max (v .ready + arc .1) (reached .opening) ≤ reached .closing
     light : v .load + reached .load ≤ m .capacity
-    is : w ≡ served v j arc reached (max (v .ready + arc .1) (reached .opening))
+    is : w ≡ served v j arc reached
 
   passed : (v : Van) (k j : ℕ) (o : Option (ℕ × ℕ)) (q : Option Place) (w : Van) → arrived m v k j o q ≡ Ok w → Passed v j o q w
   passed v k j None q w e = absurd (let z : _≡_ {A = ℕ} 0 1 = cc in omega arith)
@@ -126,7 +126,7 @@ module _ (m : Meaning) (lawful : Limits m) (depot : Place) (depot-is : m .place 
       let within = lawful .arcs i j (a .arc .0) (a .arc .1) (a .arc-is) in
       let left = known (m .place i) (lawful .present i (within .start)) in
       let s = max (ready + a .arc .1) (a .reached .opening) in
-      let stopped : served (van i ready load cost routes) j (a .arc) (a .reached) s ≡ van j (s + a .reached .service) (load + a .reached .load) (cost + a .arc .0) routes = cond-false _ _ _ (ne-eqb j 0 (λ e. omega (arith, all .0))) in
+      let stopped : served (van i ready load cost routes) j (a .arc) (a .reached) ≡ van j (s + a .reached .service) (load + a .reached .load) (cost + a .arc .0) routes = cond-false _ _ _ (ne-eqb j 0 (λ e. omega (arith, all .0))) in
       let went : On-from (on .0) (k + 1) (rest ++ (0 ∷ l)) p = on .2 in
       let rec = homed rest l j (s + a .reached .service) (load + a .reached .load) (cost + a .arc .0) routes (all .1) (k + 1) p (ap (λ w. driven m w (k + 1) (rest ++ (0 ∷ l))) (sym (a .is ∙ stopped)) ∙ went) in
       let carried : place-load (m .place j) ≡ a .reached .load = ap place-load (a .reached-is) in

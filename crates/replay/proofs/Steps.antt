@@ -12,9 +12,9 @@ use Rattle.replay.specs.Drive.{stepped, arrived, timed, served}
 
 module _ (m : Meaning) (v : Van) (k j : ℕ) (a : ℕ × ℕ) (p : Place) where
   -- where the arc and its end are there
-  pub stepped-timed : m .arc (v .at) j ≡ Some a → m .place j ≡ Some p → stepped m v k j ≡ timed m v k j a p (max (v .ready + a .1) (p .opening))
+  pub stepped-timed : m .arc (v .at) j ≡ Some a → m .place j ≡ Some p → stepped m v k j ≡ timed (m .capacity) v k j a p
   stepped-timed arc place = ap₂ (arrived m v k j) arc place
 
-  pub stepped-served : m .arc (v .at) j ≡ Some a → m .place j ≡ Some p → max (v .ready + a .1) (p .opening) ≤ p .closing → v .load + p .load ≤ m .capacity → stepped m v k j ≡ Ok (served v j a p (max (v .ready + a .1) (p .opening)))
+  pub stepped-served : m .arc (v .at) j ≡ Some a → m .place j ≡ Some p → max (v .ready + a .1) (p .opening) ≤ p .closing → v .load + p .load ≤ m .capacity → stepped m v k j ≡ Ok (served v j a p)
   stepped-served arc place early light =
       stepped-timed arc place ∙ cond-false _ _ _ (le-ltb (p .closing) _ early) ∙ cond-false _ _ _ (le-ltb (m .capacity) _ light)

@@ -18,22 +18,22 @@ use Rattle.replay.specs.declared.vans.Priced.{Priced}
 abbrev pub ready-van : Place → ℕ → ℕ → Van
 ready-van depot cost routes = record { at = 0; ready = depot .opening; load = 0; cost = cost; routes = routes }
 
--- service begun at the stop, or back home
-abbrev pub served : Van → ℕ → ℕ × ℕ → Place → ℕ → Van
-served v j a p start =
+-- service begun at the stop as early as can be, or back home
+abbrev pub served : Van → ℕ → ℕ × ℕ → Place → Van
+served v j a p =
     cond (eqb j 0) (ready-van p (v .cost + a .0) (v .routes + 1))
-    (record { at = j; ready = start + p .service; load = v .load + p .load; cost = v .cost + a .0; routes = v .routes })
+    (record { at = j; ready = max (v .ready + a .1) (p .opening) + p .service; load = v .load + p .load; cost = v .cost + a .0; routes = v .routes })
 
 -- too late where even the earliest start is after the closing, too heavy where the load passes the capacity
-abbrev pub timed : Meaning → Van → ℕ → ℕ → ℕ × ℕ → Place → ℕ → Result Van ListingFault
-timed m v k j a p start =
-    cond (ltb (p .closing) start) (Err (TooLate (v .at) j k))
-    (cond (ltb (m .capacity) (v .load + p .load)) (Err (TooHeavy (v .at) j k)) (Ok (served v j a p start)))
+abbrev pub timed : ℕ → Van → ℕ → ℕ → ℕ × ℕ → Place → Result Van ListingFault
+timed capacity v k j a p =
+    cond (ltb (p .closing) (max (v .ready + a .1) (p .opening))) (Err (TooLate (v .at) j k))
+    (cond (ltb capacity (v .load + p .load)) (Err (TooHeavy (v .at) j k)) (Ok (served v j a p)))
 
 abbrev pub arrived : Meaning → Van → ℕ → ℕ → Option (ℕ × ℕ) → Option Place → Result Van ListingFault
 arrived m v k j None p = Err (NoArc (v .at) j k)
 arrived m v k j (Some a) None = Err (NoArc (v .at) j k)
-arrived m v k j (Some a) (Some p) = timed m v k j a p (max (v .ready + a .1) (p .opening))
+arrived m v k j (Some a) (Some p) = timed (m .capacity) v k j a p
 
 -- the arc to the listing's number j, which stands at index k
 abbrev pub stepped : Meaning → Van → ℕ → ℕ → Result Van ListingFault

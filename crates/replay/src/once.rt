@@ -1,6 +1,6 @@
 // Whether a listing visits every customer exactly once.
 ghost use mathlib.Core.Path.{_≡_};
-ghost use mathlib.Core.Bool.{false};
+ghost use mathlib.Core.Bool.{false, _&&_};
 ghost use mathlib.Core.List.{List, []};
 ghost use Prim.Native.Nat.{ℕ, _<_, _≤_};
 ghost use lib.Dec.{ltb};
@@ -12,17 +12,23 @@ ghost use Rattle.replay.specs.Listing.{repeated, missing};
 ghost use Rattle.replay.specs.Answer.{once-answer};
 use crate::faults::ListingFault;
 
+// Whether a number is a customer that was seen.
+fn is_repeat(number: u8, seen: &[bool; 256]) -> bool
+    ensures { λ r. ⌜ r ≡ (ltb 0 number && getD (now (seen .entry)) number false) ⌝ }
+{
+    number > 0 && seen[number as usize]
+}
+
 // Which customers a listing visits, or the first index of one that it visits twice.
 fn visited(listing: &[u8]) -> Result<[bool; 256], usize>
     ensures { λ r. ⌜ Cases r (λ seen. (repeated [] 0 (now (listing .entry)) ≡ None) × ((c : ℕ) → 1 ≤ c → c < 256 → getD seen c false ≡ ltb 0 (count c (now (listing .entry))))) (λ k. repeated [] 0 (now (listing .entry)) ≡ Some k) ⌝ }
 {
     let mut seen = [false; 256];
     for (k, j) in listing.iter().enumerate() {
-        let customer = *j as usize;
-        if customer > 0 && seen[customer] {
+        if is_repeat(*j, &seen) {
             return Err(k);
         }
-        seen[customer] = true;
+        seen[*j as usize] = true;
     }
     Ok(seen)
 }

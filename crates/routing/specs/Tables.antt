@@ -1,9 +1,9 @@
 -- What a case's tables mean: places from the depot on, arcs row by row.
-use mathlib.Core.Bool.{cond, _||_}
+use mathlib.Core.Bool.{cond, not, _&&_}
 use mathlib.Core.List.{List}
 use Prim.Native.Nat.{ℕ, _+_, _*_}
 use native.Mathlib.Omega.{arith}
-use lib.Dec.{eqb, ltb}
+use lib.Dec.{eqb, leb}
 use Rattle.std.specs.shelf.Maps.{nth}
 use Rattle.std.specs.declared.option.Option.{Option}
 use Rattle.std.specs.declared.option.Option.the-variants.{None, Some}
@@ -27,11 +27,11 @@ arc-of (Some (Some a)) = Some (a .cost, a .travel)
 
 -- the depot is without load and service whatever the table holds, and no place has an arc to itself
 abbrev pub table-place : Head → List Place → ℕ → Option Place
-table-place h places i = cond (eqb i 0) (depot-of (nth places 0)) (cond (ltb (h .customers) i) None (nth places i))
+table-place h places i = cond (eqb i 0) (depot-of (nth places 0)) (cond (leb i (h .customers)) (nth places i) None)
 
 abbrev pub table-arc : Head → List (Option Road) → ℕ → ℕ → Option (ℕ × ℕ)
 table-arc h arcs i j =
-    cond (ltb (h .customers) i || (ltb (h .customers) j || eqb i j)) None (arc-of (nth arcs (i * (h .customers + 1) + j)))
+    cond (leb i (h .customers) && (leb j (h .customers) && not (eqb i j))) (arc-of (nth arcs (i * (h .customers + 1) + j))) None
 
 abbrev pub table-meaning : Head → List Place → List (Option Road) → Meaning
 table-meaning h places arcs = record {

@@ -1,9 +1,11 @@
 // Making a table network, and its answers.
 ghost use Prim.Native.Nat.{_+_, _*_, _≤_};
+ghost use mathlib.Core.Bool.{not, _&&_};
 ghost use mathlib.Core.Path.{_≡_};
+ghost use lib.Dec.{eqb, leb};
 ghost use lib.ListN.{length};
 ghost use Rattle.std.specs.Options.{Cases};
-ghost use Rattle.routing.specs.Tables.{table-meaning, unladen};
+ghost use Rattle.routing.specs.Tables.{table-meaning};
 ghost use Rattle.routing.specs.Lawful.{table-limits};
 use crate::cells::Head;
 use crate::cells::Place;
@@ -14,7 +16,7 @@ use crate::tables::TableNetwork;
 impl Place {
     // The same window with no load and no service.
     pub fn unladen(&self) -> Place
-        ensures { λ r. ⌜ r ≡ unladen (now (self .entry)) ⌝ }
+        ensures { λ r. ⌜ (r .load ≡ 0) × (r .opening ≡ now (self .entry) .opening) × (r .closing ≡ now (self .entry) .closing) × (r .service ≡ 0) ⌝ }
     {
         Place {
             load: 0,
@@ -22,6 +24,29 @@ impl Place {
             closing: self.closing,
             service: 0,
         }
+    }
+}
+
+impl Head {
+    // Whether there is a place i.
+    fn has(&self, i: u8) -> bool
+        ensures { λ r. ⌜ r ≡ leb i (now (self .entry) .customers) ⌝ }
+    {
+        i <= self.customers
+    }
+
+    // Whether the arcs' table speaks of the arc from i to j.
+    fn joins(&self, i: u8, j: u8) -> bool
+        ensures { λ r. ⌜ r ≡ (leb i (now (self .entry) .customers) && (leb j (now (self .entry) .customers) && not (eqb i j))) ⌝ }
+    {
+        self.has(i) && self.has(j) && i != j
+    }
+
+    // Where the arcs' table has the arc from i to j.
+    fn cell(&self, i: u8, j: u8) -> usize
+        ensures { λ r. ⌜ r ≡ i * (now (self .entry) .customers + 1) + j ⌝ }
+    {
+        i as usize * (self.customers as usize + 1) + j as usize
     }
 }
 
@@ -56,7 +81,7 @@ pub impl<'a> Network for TableNetwork<'a> as TableAnswers {
             let depot = &self.places[0];
             return Some(depot.unladen());
         }
-        if i > self.head.customers {
+        if !self.head.has(i) {
             return None;
         }
         Some(self.places[i as usize])
@@ -71,11 +96,10 @@ pub impl<'a> Network for TableNetwork<'a> as TableAnswers {
     }
 
     fn arc(&self, i: u8, j: u8) -> Option<(u32, u32)> {
-        let n = self.head.customers;
-        if i > n || j > n || i == j {
+        if !self.head.joins(i, j) {
             return None;
         }
-        let cell = &self.arcs[i as usize * (n as usize + 1) + j as usize];
+        let cell = &self.arcs[self.head.cell(i, j)];
         match cell {
             Some(road) => Some((road.cost, road.travel)),
             None => None,

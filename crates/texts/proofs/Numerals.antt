@@ -43,7 +43,7 @@ pub a-number : (w : List ℕ) (n : ℕ) → 1 ≤ length w → length w ≤ 9 �
 a-number w n some few plain digits e =
     ap (λ k. Some k) e
     ∙ sym (cond-true (number-word w) _ _ (and-from (sized w) _
-      (and-from (leb 1 (length w)) (leb (length w) 9) (le-leb 1 (length w) some) (le-leb (length w) 9 few))
-      (and-from (not (needless w)) (allDigits w) (not-from-false (needless w)
-        (⊎-elim (λ l. and-left (leb 2 (length w)) _ (lt-leb 2 (length w) (omega arith))) (λ f. and-right (leb 2 (length w)) _ (ne-eqb (getD w 0 0) 48 f)) plain))
-      digits)))
+    (and-from (leb 1 (length w)) (leb (length w) 9) (le-leb 1 (length w) some) (le-leb (length w) 9 few))
+    (and-from (not (needless w)) (allDigits w) (not-from-false (needless w)
+    (⊎-elim (λ l. and-left (leb 2 (length w)) _ (lt-leb 2 (length w) (omega arith))) (λ f. and-right (leb 2 (length w)) _ (ne-eqb (getD w 0 0) 48 f)) plain))
+    digits)))

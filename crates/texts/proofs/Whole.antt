@@ -58,12 +58,12 @@ module _ (text : List ℕ) (places : List Place) (arcs : List (Option Road)) (h 
       let q = copied rs roads (n * n) (omega (arith, square (h .customers) (h .few))) re in
       record {
         answer = ap (fits-tables (length places) (length arcs)) judged
-          ∙ cond-false (ltb (length places) n || ltb (length arcs) (n * n)) _ _ (or-from (ltb (length places) n) (ltb (length arcs) (n * n)) (le-ltb (length places) n room) (le-ltb (length arcs) (n * n) span))
-          ∙ (λ i. Ok (record {
-            head = head-fields h;
-            places = map place-fields ((sym (p .1) ∙ sym (written ps places n (p .0))) i);
-            arcs = map (mapped road-fields) ((sym (q .1) ∙ sym (written rs arcs (n * n) (q .0))) i);
-          }));
+            ∙ cond-false (ltb (length places) n || ltb (length arcs) (n * n)) _ _ (or-from (ltb (length places) n) (ltb (length arcs) (n * n)) (le-ltb (length places) n room) (le-ltb (length arcs) (n * n) span))
+            ∙ (λ i. Ok (record {
+              head = head-fields h;
+              places = map place-fields ((sym (p .1) ∙ sym (written ps places n (p .0))) i);
+              arcs = map (mapped road-fields) ((sym (q .1) ∙ sym (written rs arcs (n * n) (q .0))) i);
+            }));
         places-kept = kept ps places n (p .0);
         arcs-kept = kept rs arcs (n * n) (q .0);
       }

@@ -11,7 +11,6 @@ use Rattle.texts.specs.declared.scan.Word.{Word}
 use Rattle.texts.specs.Tokens.{Token, word, feed, ahead}
 
 infixr 20 _>>=_
-
 -- the offset after what was judged, and the tokens still to be judged
 abbrev pub State : Type 0
 State = ℕ × List Token

@@ -8,7 +8,8 @@ ghost use Rattle.texts.specs.Arcs.{is-byte, unslashed, road-fields, as-fields,
 ghost use Rattle.texts.specs.Judging.{here};
 use crate::faults::TextFault;
 use crate::numbers::number_of;
-use crate::scan::{Word, next_word};
+use crate::scan::Word;
+use crate::scan::next_word;
 use routing::cells::Road;
 
 // An arc that was read, if it is there, and the offset after its word.

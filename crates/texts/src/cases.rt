@@ -3,12 +3,20 @@ ghost use mathlib.Core.Path.{_≡_};
 ghost use lib.ListN.{length};
 ghost use Rattle.texts.specs.Cases.{case-judged, CaseJudged, CaseRead};
 use crate::faults::TextFault;
-use crate::lines::{HeadLine, next_head};
-use crate::tables::{read_places, read_rows};
-use routing::cells::{Head, Place, Road};
+use crate::lines::HeadLine;
+use crate::lines::next_head;
+use crate::tables::read_places;
+use crate::tables::read_rows;
+use routing::cells::Head;
+use routing::cells::Place;
+use routing::cells::Road;
 
 // The whole text judged: its head, with the places and the arcs in the fronts of the two tables.
-fn judge_case(text: &[u8], places: &mut [Place], arcs: &mut [Option<Road>]) -> Result<Head, TextFault>
+fn judge_case(
+    text: &[u8],
+    places: &mut [Place],
+    arcs: &mut [Option<Road>],
+) -> Result<Head, TextFault>
     requires { ⌜ (length (now places) ≡ 61) × (length (now arcs) ≡ 3721) ⌝ }
     ensures { λ r. ⌜ CaseJudged r (now (places .exit)) (now (arcs .exit)) (case-judged (now (text .entry))) ⌝ }
 {
@@ -24,10 +32,19 @@ fn judge_case(text: &[u8], places: &mut [Place], arcs: &mut [Option<Road>]) -> R
 
 // Reads a case: its head is answered, and its places and arcs are written to the fronts of the
 // tables, the arc from i to j at i times the number of places, plus j. A refused text writes nothing.
-pub fn read_case(text: &[u8], places: &mut [Place], arcs: &mut [Option<Road>]) -> Result<Head, TextFault>
+pub fn read_case(
+    text: &[u8],
+    places: &mut [Place],
+    arcs: &mut [Option<Road>],
+) -> Result<Head, TextFault>
     ensures { λ r. ⌜ CaseRead (now (text .entry)) (now (places .entry)) (now (arcs .entry)) r (now (places .exit)) (now (arcs .exit)) ⌝ }
 {
-    let nowhere = Place { load: 0, opening: 0, closing: 0, service: 0 };
+    let nowhere = Place {
+        load: 0,
+        opening: 0,
+        closing: 0,
+        service: 0,
+    };
     let mut stops = [nowhere; 61];
     let mut roads: [Option<Road>; 3721] = [None; 3721];
     let head = judge_case(text, &mut stops, &mut roads)?;

@@ -8,8 +8,11 @@ ghost use Rattle.texts.specs.Judging.{EndRead};
 use crate::arcs::is_byte;
 use crate::faults::TextFault;
 use crate::numbers::next_number;
-use crate::scan::{Word, next_line, next_word};
-use routing::cells::{Head, Place};
+use crate::scan::Word;
+use crate::scan::next_line;
+use crate::scan::next_word;
+use routing::cells::Head;
+use routing::cells::Place;
 
 #[derive(Clone, Copy)]
 pub struct HeadLine {
@@ -29,7 +32,11 @@ fn next_mark(text: &[u8], at: usize) -> Result<usize, TextFault>
     ensures { λ r. ⌜ EndRead (now (text .entry)) r (mark-due (length (now (text .entry))) (here (now (text .entry)) at)) ⌝ }
 {
     let Word { start, end } = next_word(text, at)?;
-    if is_byte(&text[start..end], b'M') { Ok(end) } else { Err(TextFault::Form(start)) }
+    if is_byte(&text[start..end], b'M') {
+        Ok(end)
+    } else {
+        Err(TextFault::Form(start))
+    }
 }
 
 // `M`, the number of customers, the capacity, the least and the most vans.
@@ -62,6 +69,11 @@ pub fn next_place(text: &[u8], at: usize, i: usize) -> Result<PlaceLine, TextFau
     let closing = next_number(text, opening.next, opening.value, 60_000)?;
     let service = next_number(text, closing.next, 0, if i == 0 { 0 } else { 60_000 })?;
     let next = next_line(text, service.next)?;
-    let place = Place { load: load.value, opening: opening.value, closing: closing.value, service: service.value };
+    let place = Place {
+        load: load.value,
+        opening: opening.value,
+        closing: closing.value,
+        service: service.value,
+    };
     Ok(PlaceLine { place, next })
 }

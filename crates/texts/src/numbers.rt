@@ -6,7 +6,8 @@ ghost use Rattle.std.specs.Vec.{made};
 ghost use Rattle.texts.specs.Numbers.{numeral, within, number-due, NumberRead};
 ghost use Rattle.texts.specs.Judging.{here};
 use crate::faults::TextFault;
-use crate::scan::{Word, next_word};
+use crate::scan::Word;
+use crate::scan::next_word;
 
 // A number that was read, and the offset after its word.
 #[derive(Clone, Copy)]

@@ -5,7 +5,8 @@ ghost use lib.ListN.{length};
 ghost use Rattle.texts.specs.Plans.{plan-judged, PlanJudged, PlanRead};
 use crate::faults::TextFault;
 use crate::numbers::number_within;
-use crate::scan::{skip_blanks, word_end};
+use crate::scan::skip_blanks;
+use crate::scan::word_end;
 
 // The whole text judged: how many numbers it lists, with the numbers in the list's front.
 fn judge_plan(text: &[u8], numbers: &mut [u8]) -> Result<usize, TextFault>

@@ -69,7 +69,10 @@ pub fn next_word(text: &[u8], at: usize) -> Result<Word, TextFault>
     if start == text.len() || text[start] == b'\n' {
         return Err(TextFault::Count(start));
     }
-    Ok(Word { start, end: word_end(text, start) })
+    Ok(Word {
+        start,
+        end: word_end(text, start),
+    })
 }
 
 // The offset after the line's end, where no word is left in the line.

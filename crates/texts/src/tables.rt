@@ -9,7 +9,8 @@ use crate::arcs::next_arc;
 use crate::faults::TextFault;
 use crate::lines::next_place;
 use crate::scan::next_line;
-use routing::cells::{Place, Road};
+use routing::cells::Place;
+use routing::cells::Road;
 
 // A line for each place, the depot's first; the answer is the offset after them.
 pub fn read_places(text: &[u8], mut at: usize, cells: &mut [Place]) -> Result<usize, TextFault>
@@ -25,7 +26,12 @@ pub fn read_places(text: &[u8], mut at: usize, cells: &mut [Place]) -> Result<us
 }
 
 // The arcs from place `i`, a word for each place; the answer is the offset after the line.
-fn read_row(text: &[u8], mut at: usize, i: usize, row: &mut [Option<Road>]) -> Result<usize, TextFault>
+fn read_row(
+    text: &[u8],
+    mut at: usize,
+    i: usize,
+    row: &mut [Option<Road>],
+) -> Result<usize, TextFault>
     requires { ⌜ at ≤ length (now text) ⌝ }
     ensures { λ r. ⌜ ArcsRead (now (text .entry)) r (now (row .exit)) (row-due (length (now (text .entry))) (length (now (row .entry))) i (here (now (text .entry)) at)) ⌝ }
 {
@@ -38,7 +44,12 @@ fn read_row(text: &[u8], mut at: usize, i: usize, row: &mut [Option<Road>]) -> R
 }
 
 // The arcs from each place in turn; the answer is the offset after their lines.
-pub fn read_rows(text: &[u8], mut at: usize, side: usize, cells: &mut [Option<Road>]) -> Result<usize, TextFault>
+pub fn read_rows(
+    text: &[u8],
+    mut at: usize,
+    side: usize,
+    cells: &mut [Option<Road>],
+) -> Result<usize, TextFault>
     requires { ⌜ at ≤ length (now text) ⌝ }
     requires { ⌜ length (now cells) ≡ side * side ⌝ }
     ensures { λ r. ⌜ ArcsRead (now (text .entry)) r (now (cells .exit)) (rows-due (length (now (text .entry))) side (here (now (text .entry)) at)) ⌝ }

@@ -8,13 +8,12 @@ use lib.Dec.{ltb}
 use lib.ListN.{length, take, drop, getD, set, length-set, length-replicate}
 use lib.Seq.{getD-set-same, getD-set-other}
 use Rattle.std.proofs.shelf.Lists.{at-drop-more, at-drop-all, take-more, take-all, getD-replicate}
-use Rattle.std.proofs.shelf.Tests.{cond-true, cond-false, and-from, and-left, and-right, lt-ltb, le-ltb, cases-eq}
+use Rattle.std.proofs.shelf.Tests.{cond-true, cond-false, and-left, lt-ltb, le-ltb, cases-eq, cases-lt}
 use Rattle.routing.specs.Routes.{count}
 use Rattle.routing.proofs.Counts.{count-push-same, count-push-other}
 use Rattle.replay.specs.Listing.{repeated}
 use borrow.Author.Needs.{needs}
 use Rattle.replay.proofs.once.visited.Needs as need
-use Rattle.replay.proofs.once.visited.Needs.{else-customer-gt0·by·then-customer-gt0·else-seen-customer, else-customer-gt0·by·else-customer-gt0}
 
 -- one customer more in the array and in the list
 marked : (seen : List Bool) (front : List ℕ) (x y : ℕ) → x < length seen → getD seen y false ≡ ltb 0 (count y front) → getD (set seen x true) y false ≡ ltb 0 (count y (front ++ (x ∷ [])))
@@ -27,14 +26,19 @@ marked seen front x y within before =
 pub loop-k-holds : need.loop-k-holds
 loop-k-holds c = (omega arith, refl, refl, λ x low high. getD-replicate 256 x false false high)
 
-pub returns-then-seen-customer : need.returns-then-seen-customer
-returns-then-seen-customer c =
+-- a repeat in the array is one in the listing's front
+same-test : (seen : List Bool) (front : List ℕ) (x : ℕ) → x < 256 → ((y : ℕ) → 1 ≤ y → y < 256 → getD seen y false ≡ ltb 0 (count y front)) → (ltb 0 x && getD seen x false) ≡ (ltb 0 x && ltb 0 (count x front))
+same-test seen front x small same =
+    ⊎-elim (λ some. ap (λ b. ltb 0 x && b) (same x some small)) (λ none. and-left _ _ (le-ltb 0 x none) ∙ sym (and-left _ _ (le-ltb 0 x none))) (cases-lt 0 x)
+
+pub returns-then-is-repeat : need.returns-then-is-repeat
+returns-then-is-repeat c =
     let s = c .loop-k in
     let xs = c .args .listing .now in
     let x = getD xs (s .k) 0 in
-    let more = at-drop-more (repeated (take (s .k) xs) (s .k)) xs (s .k) 0 (omega arith) in
     let small : x < 256 = search needs in
-    let again = and-from _ _ (lt-ltb 0 x (c .if-customer-gt0 .taken)) (sym (s .inv .3 x (omega arith) small) ∙ c .if-seen-customer .taken) in
+    let more = at-drop-more (repeated (take (s .k) xs) (s .k)) xs (s .k) 0 (omega arith) in
+    let again = sym (same-test (s .seen) (take (s .k) xs) x small (s .inv .3)) ∙ sym (c .if-is-repeat .ensures tt) in
     sym (s .inv .2) ∙ more ∙ cond-true _ _ _ again
 
 pub loop-k-again : need.loop-k-again
@@ -45,11 +49,7 @@ loop-k-again c =
     let small : x < 256 = search needs in
     let front = take-more xs (s .k) 0 (omega arith) in
     let more = at-drop-more (repeated (take (s .k) xs) (s .k)) xs (s .k) 0 (omega arith) in
-    let new : (ltb 0 x && ltb 0 (count x (take (s .k) xs))) ≡ false =
-    elim (c .else-customer-gt0 .came) [
-      | else-customer-gt0·by·then-customer-gt0·else-seen-customer w ↦ and-right _ _ (sym (s .inv .3 x (w .if-customer-gt0 .taken) small) ∙ w .if-seen-customer .left)
-      | else-customer-gt0·by·else-customer-gt0 w ↦ and-left _ _ (le-ltb 0 x (w .if-customer-gt0 .left))
-    ] in (
+    let new = sym (same-test (s .seen) (take (s .k) xs) x small (s .inv .3)) ∙ sym (c .if-is-repeat .ensures tt) in (
       omega arith,
       length-set (s .seen) x true ∙ s .inv .1,
       ap (λ l. repeated l (s .k + 1) (drop (s .k + 1) xs)) front ∙ sym (cond-false _ _ _ new) ∙ sym more ∙ s .inv .2,

@@ -20,8 +20,7 @@ add-value c = let p : c .loop-b .value < 100000000 = small (c .loop-b .value) (c
 
 pub loop-b-again : need.loop-b-again
 loop-b-again c =
-    let digit = c .if-not-is-ascii-digit .ensures tt in
-    (
+    let digit = c .if-not-is-ascii-digit .ensures tt in (
       sym (more-value (c .args .word .now) (c .loop-b .b-index) (c .loop-b .value) (c .loop-b-test .taken) (digit .cases)) ∙ c .loop-b .inv .0,
       sym (more-digits (c .args .word .now) (c .loop-b .b-index) (c .loop-b-test .taken) (sym (digit .value))) ∙ c .loop-b .inv .1,
       more-bound (c .loop-b .value) _ (c .loop-b .b-index) (c .loop-b .inv .2) (omega (arith, digit .cases)),

@@ -23,14 +23,13 @@ returns-in-Break-numbers c =
 pub loop-at-again : need.loop-at-again
 loop-at-again c =
     let text = c .args .text .now in
-    let k = c .loop-at .count in
-    (
+    let k = c .loop-at .count in (
       omega arith,
       omega arith,
       c .skip-blanks-at-in-loop-at .ensures .stops,
       c .loop-at .inv .3
-      ∙ listing-more text (c .loop-at .at) (c .loop-at-test .taken) (c .loop-at .inv .2 (c .loop-at-test .taken)) (take k (c .loop-at .numbers)) k (c .word-end-end .result) (c .in-Continue-numbers .field-0) (omega arith) (c .word-end-end .ensures .end) (c .in-Continue-numbers .ensures tt .answer)
-      ∙ (λ i. in-front (sym (take-more-set (c .loop-at .numbers) k (c .in-Continue-numbers .field-0) (omega arith)) i) (listing-judged (120 - (k + 1)) (sym (c .skip-blanks-at-in-loop-at .ensures .same) i))),
+          ∙ listing-more text (c .loop-at .at) (c .loop-at-test .taken) (c .loop-at .inv .2 (c .loop-at-test .taken)) (take k (c .loop-at .numbers)) k (c .word-end-end .result) (c .in-Continue-numbers .field-0) (omega arith) (c .word-end-end .ensures .end) (c .in-Continue-numbers .ensures tt .answer)
+          ∙ (λ i. in-front (sym (take-more-set (c .loop-at .numbers) k (c .in-Continue-numbers .field-0) (omega arith)) i) (listing-judged (120 - (k + 1)) (sym (c .skip-blanks-at-in-loop-at .ensures .same) i))),
     )
 
 pub returns : need.returns

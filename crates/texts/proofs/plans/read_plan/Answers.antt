@@ -16,11 +16,10 @@ returns c =
     let old = c .args .listing .now in
     let n = c .in-Continue-count .count in
     let few : n ≤ 120 = c .in-Continue-count .ensures tt .1 in
-    let p = copied new (c .judge-plan .last .numbers) n (omega arith) (c .copy-from-slice .ensures .after) in
-    (
+    let p = copied new (c .judge-plan .last .numbers) n (omega arith) (c .copy-from-slice .ensures .after) in (
       ap (fits-listing (length old)) (c .in-Continue-count .ensures tt .0)
-      ∙ cond-false (ltb (length old) 120) _ _ (le-ltb (length old) 120 (c .if-listing-lt120 .left))
-      ∙ ap Ok (sym (p .1) ∙ sym (written new old n (p .0))),
+          ∙ cond-false (ltb (length old) 120) _ _ (le-ltb (length old) 120 (c .if-listing-lt120 .left))
+          ∙ ap Ok (sym (p .1) ∙ sym (written new old n (p .0))),
       omega (arith, length-append new (postOf 0 (n - 0) old), p .0),
       kept new old n (p .0),
     )

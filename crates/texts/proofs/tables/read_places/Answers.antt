@@ -20,18 +20,17 @@ returns-in-Break-line c =
 pub loop-i-again : need.loop-i-again
 loop-i-again c =
     let told = c .in-Continue-line .ensures tt in
-    let due = place-due (length (c .args .text .now)) in
-    (
+    let due = place-due (length (c .args .text .now)) in (
       told .1,
       c .loop-i .inv .1
-      ∙ times-more due _ (c .loop-i .i) (length (c .args .cells .now)) (here (c .args .text .now) (c .loop-i .at)) _ _ (omega arith) (told .0)
-      ∙ ap (λ l. prefixed l (times due (c .loop-i .i + 1) (length (c .args .cells .now) - (c .loop-i .i + 1)) (here (c .args .text .now) (c .in-Continue-line .line .next)))) (sym (cells-more place-fields (c .loop-i .cells) (c .loop-i .i) (c .in-Continue-line .line .place) (omega arith))),
+          ∙ times-more due _ (c .loop-i .i) (length (c .args .cells .now)) (here (c .args .text .now) (c .loop-i .at)) _ _ (omega arith) (told .0)
+          ∙ ap (λ l. prefixed l (times due (c .loop-i .i + 1) (length (c .args .cells .now) - (c .loop-i .i + 1)) (here (c .args .text .now) (c .in-Continue-line .line .next)))) (sym (cells-more place-fields (c .loop-i .cells) (c .loop-i .i) (c .in-Continue-line .line .place) (omega arith))),
     )
 
 pub returns : need.returns
 returns c = (
   c .loop-i .inv .1
-  ∙ times-all (place-due (length (c .args .text .now))) _ (c .loop-i .i) (length (c .args .cells .now)) (here (c .args .text .now) (c .loop-i .at)) (omega arith)
-  ∙ ap (λ l. Ok (map place-fields l, here (c .args .text .now) (c .loop-i .at))) (take-all (c .loop-i .i) (c .loop-i .cells) (omega arith)),
+      ∙ times-all (place-due (length (c .args .text .now))) _ (c .loop-i .i) (length (c .args .cells .now)) (here (c .args .text .now) (c .loop-i .at)) (omega arith)
+      ∙ ap (λ l. Ok (map place-fields l, here (c .args .text .now) (c .loop-i .at))) (take-all (c .loop-i .i) (c .loop-i .cells) (omega arith)),
   omega arith,
 )

@@ -23,12 +23,11 @@ returns-in-Break-arc c =
 pub loop-j-again : need.loop-j-again
 loop-j-again c =
     let told = c .in-Continue-arc .ensures tt in
-    let due = arc-due (length (c .args .text .now)) (c .args .i) in
-    (
+    let due = arc-due (length (c .args .text .now)) (c .args .i) in (
       told .1,
       c .loop-j .inv .1
-      ∙ times-more due _ (c .loop-j .j) (length (c .args .row .now)) (here (c .args .text .now) (c .loop-j .at)) _ _ (omega arith) (told .0)
-      ∙ ap (λ l. prefixed l (times due (c .loop-j .j + 1) (length (c .args .row .now) - (c .loop-j .j + 1)) (here (c .args .text .now) (c .in-Continue-arc .arc .next)))) (sym (cells-more (mapped road-fields) (c .loop-j .row) (c .loop-j .j) (c .in-Continue-arc .arc .road) (omega arith))),
+          ∙ times-more due _ (c .loop-j .j) (length (c .args .row .now)) (here (c .args .text .now) (c .loop-j .at)) _ _ (omega arith) (told .0)
+          ∙ ap (λ l. prefixed l (times due (c .loop-j .j + 1) (length (c .args .row .now) - (c .loop-j .j + 1)) (here (c .args .text .now) (c .in-Continue-arc .arc .next)))) (sym (cells-more (mapped road-fields) (c .loop-j .row) (c .loop-j .j) (c .in-Continue-arc .arc .road) (omega arith))),
     )
 
 pub returns : need.returns

@@ -1,0 +1,31 @@
+// Judges each case folder that index.txt names, and prints its name and line.
+use files::judging::judge_files;
+use files::lines::LineDisplay;
+use std::error::AnyError;
+use std::fs;
+
+// A file's bytes; one that cannot be read counts as empty.
+fn contents(rt: &LibcRuntime, path: &str) -> Vec<u8> {
+    match fs::read(rt, path) {
+        Ok(bytes) => bytes,
+        Err(_) => Vec::new(rt.alloc()),
+    }
+}
+
+fn judge_folder(rt: &LibcRuntime, name: &str) -> Result<(), AnyError> {
+    let case_path = format!(rt.alloc(), "{name}/case.txt")?;
+    let plan_path = format!(rt.alloc(), "{name}/plan.txt")?;
+    let case = contents(rt, case_path.as_str());
+    let plan = contents(rt, plan_path.as_str());
+    let line = judge_files(case.as_slice(), plan.as_slice());
+    println!(rt, "{name}: {line}")?;
+    Ok(())
+}
+
+fn main(rt: LibcRuntime) -> Result<(), AnyError> {
+    let index = fs::read_to_string(&rt, "index.txt")?;
+    for name in index.as_str().lines() {
+        judge_folder(&rt, name)?;
+    }
+    Ok(())
+}
