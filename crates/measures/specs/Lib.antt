@@ -1,1 +1,9 @@
 pub mod Measure
+pub mod Words
+pub mod Along
+pub mod Time
+pub mod TimeLaws
+pub mod Load
+pub mod LoadLaws
+pub mod Pair
+pub mod PairLaws
