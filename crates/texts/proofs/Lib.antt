@@ -4,3 +4,11 @@ pub mod Slashes
 pub mod Repeats
 pub mod Whole
 pub mod Listings
+pub mod Spelling
+pub mod PlanTexts
+pub mod Marks
+pub mod Arrows
+pub mod Turns
+pub mod LineTexts
+pub mod Ends
+pub mod CaseTexts

@@ -10,7 +10,7 @@ use Rattle.std.specs.declared.result.Result.{Result}
 use Rattle.std.specs.declared.result.Result.the-variants.{Ok, Err}
 use Rattle.texts.specs.declared.faults.TextFault.{TextFault}
 use Rattle.texts.specs.declared.faults.TextFault.the-variants.{Count}
-use Rattle.texts.specs.Tokens.{ahead, words, letter, front}
+use Rattle.texts.specs.Tokens.{ahead, words, letter}
 use Rattle.texts.specs.Numbers.{numeral, within}
 use Rattle.texts.specs.Plans.{listed, listing-judged}
 use Rattle.texts.proofs.Scans.{word-ahead, none-ahead}

@@ -1,22 +1,20 @@
 -- What one more digit of a number word does.
-use mathlib.Core.Path.{_≡_, refl, sym, _∙_, ap}
-use mathlib.Core.Bool.{Bool, true, false, not, cond, _&&_}
-use mathlib.Core.List.{List, [], _∷_}
-use mathlib.Core.Logic.{_⊎_, inl, inr, ⊎-elim}
+use mathlib.Core.Path.{_≡_, sym, _∙_, ap}
+use mathlib.Core.Bool.{true, false, _&&_}
+use mathlib.Core.List.{List}
 use Prim.Native.Nat.{ℕ, _+_, _-_, _*_, _^_, _≤_, _<_}
 use native.Mathlib.Nat.{pow-le-pow-right}
 use native.Mathlib.Omega.{arith}
-use lib.Dec.{eqb, leb, ltb}
+use lib.Dec.{leb}
 use lib.Pow.{pow-add}
 use lib.ListN.{length, getD, drop}
 use Rattle.std.specs.Reads.{value, valueAfter}
 use Rattle.std.specs.Text.{digitValue, asciiDigit, In}
 use Rattle.std.specs.shelf.Text.{allDigits}
-use Rattle.std.specs.declared.option.Option.{Option}
 use Rattle.std.specs.declared.option.Option.the-variants.{None, Some}
-use Rattle.std.proofs.shelf.Lists.{at-drop-more, at-drop-all}
-use Rattle.std.proofs.shelf.Tests.{and-from, and-left, and-right, cond-true, cond-false, not-from-false, le-leb, lt-leb, ne-eqb, le-ltb, lt-ltb}
-use Rattle.texts.specs.Numbers.{sized, needless, number-word, numeral}
+use Rattle.std.proofs.shelf.Lists.{at-drop-more}
+use Rattle.std.proofs.shelf.Tests.{and-from, and-right, and-parts, cond-true, cond-false, leb-true, le-ltb, lt-ltb}
+use Rattle.texts.specs.Numbers.{shaped, number-word, numeral}
 
 digit-value : (b : ℕ) → In 48 57 b → digitValue b ≡ b - 48
 digit-value b p = let low = le-ltb b 48 (p .0) in let high = lt-ltb b 58 (omega (arith, p .1)) in rw (low, high)
@@ -37,13 +35,11 @@ pub small : (n i : ℕ) → n < 10 ^ i → i < 9 → n < 100000000
 small n i h l = let p : i ≤ 8 = omega arith in let q : 10 ^ i ≤ 10 ^ 8 = pow-le-pow-right {n = 10} (omega arith) p in omega arith
 
 pub no-number : (w : List ℕ) → allDigits w ≡ false → None ≡ numeral w
-no-number w e = sym (cond-false (number-word w) _ _ (and-right (sized w) _ (and-right (not (needless w)) (allDigits w) e)))
+no-number w e = sym (cond-false (number-word w) _ _ (and-right (shaped w) (allDigits w) e))
 
-pub a-number : (w : List ℕ) (n : ℕ) → 1 ≤ length w → length w ≤ 9 → (length w ≤ 1) ⊎ (getD w 0 0 ≡ 48 → ⊥) → allDigits w ≡ true → n ≡ value 10 w → Some n ≡ numeral w
-a-number w n some few plain digits e =
-    ap (λ k. Some k) e
-    ∙ sym (cond-true (number-word w) _ _ (and-from (sized w) _
-    (and-from (leb 1 (length w)) (leb (length w) 9) (le-leb 1 (length w) some) (le-leb (length w) 9 few))
-    (and-from (not (needless w)) (allDigits w) (not-from-false (needless w)
-    (⊎-elim (λ l. and-left (leb 2 (length w)) _ (lt-leb 2 (length w) (omega arith))) (λ f. and-right (leb 2 (length w)) _ (ne-eqb (getD w 0 0) 48 f)) plain))
-    digits)))
+pub a-number : (w : List ℕ) (n : ℕ) → shaped w ≡ true → allDigits w ≡ true → n ≡ value 10 w → Some n ≡ numeral w
+a-number w n shape digits e = ap (λ k. Some k) e ∙ sym (cond-true (number-word w) _ _ (and-from (shaped w) (allDigits w) shape digits))
+
+pub few-digits : (w : List ℕ) → shaped w ≡ true → length w ≤ 9
+few-digits w e =
+    leb-true (length w) 9 (and-parts (leb (length w) 9) _ (and-parts (leb 1 (length w)) _ e .1) .0)

@@ -1,6 +1,6 @@
 -- What one step over a text does to the tokens ahead.
 use mathlib.Core.Path.{_≡_, refl, sym, _∙_, ap}
-use mathlib.Core.Bool.{Bool, true, false, not, cond, _||_}
+use mathlib.Core.Bool.{Bool, true, false}
 use mathlib.Core.List.{List, [], _∷_}
 use mathlib.Core.Logic.{_⊎_, inl, inr, ⊎-elim}
 use Prim.Native.Nat.{ℕ, _+_, _-_, _≤_, _<_}
@@ -16,7 +16,7 @@ use Rattle.std.proofs.shelf.Tests.{cases-bool, or-parts, not-true, not-false, e
 use Rattle.std.specs.declared.result.Result.the-variants.{Ok, Err}
 use Rattle.texts.specs.declared.faults.TextFault.the-variants.{Count}
 use Rattle.texts.specs.Judging.{word-due, first-word, line-end, first-feed, here}
-use Rattle.texts.specs.Tokens.{Token, word, feed, blank, letter, front, tokens, ahead, words}
+use Rattle.texts.specs.Tokens.{word, feed, blank, letter, front, tokens, ahead, words}
 
 pub past-space : (inside : Bool) (at b : ℕ) (bs : List ℕ) → b ≡ 32 → tokens inside at (b ∷ bs) ≡ tokens false (at + 1) bs
 past-space inside at b bs e = rw e

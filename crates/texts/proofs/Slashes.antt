@@ -1,9 +1,9 @@
 -- What an arc word says, by the numbers on the two sides of its slash.
 use mathlib.Core.Path.{_≡_, refl, sym, _∙_, ap}
-use mathlib.Core.Bool.{Bool, true, false, cond, _&&_}
-use mathlib.Core.List.{List, [], _∷_}
-use mathlib.Core.Logic.{_⊎_, inl, inr, ⊎-elim}
-use Prim.Native.Nat.{ℕ, _+_, _-_, _≤_, _<_}
+use mathlib.Core.Bool.{cond, _&&_}
+use mathlib.Core.List.{List}
+use mathlib.Core.Logic.{⊎-elim}
+use Prim.Native.Nat.{ℕ, _+_, _-_, _≤_}
 use native.Mathlib.Omega.{arith}
 use lib.Dec.{leb}
 use lib.ListN.{length, take, drop}
@@ -11,15 +11,13 @@ use Rattle.std.specs.Options.{Cases, okOr}
 use Rattle.std.specs.shelf.Lists.{leading}
 use Rattle.std.specs.declared.option.Option.{Option}
 use Rattle.std.specs.declared.option.Option.the-variants.{None, Some}
-use Rattle.std.specs.declared.result.Result.{Result}
 use Rattle.std.specs.declared.result.Result.the-variants.{Ok, Err}
 use Rattle.std.proofs.shelf.Lists.{drop-all, take-rest}
 use Rattle.std.proofs.shelf.Tests.{and-from, and-parts, leb-true, le-leb, cond-true, cond-false, cases-bool}
 use Rattle.routing.specs.declared.cells.Road.{Road}
-use Rattle.texts.specs.declared.faults.TextFault.{TextFault}
 use Rattle.texts.specs.declared.faults.TextFault.the-variants.{Form, Range}
 use Rattle.texts.specs.Numbers.{numeral}
-use Rattle.texts.specs.Arcs.{unslashed, before-slash, after-slash, road-within, road-at, road-fields, as-fields}
+use Rattle.texts.specs.Arcs.{unslashed, before-slash, road-within, road-at, road-fields, as-fields}
 
 second-none : (at : ℕ) (o : Option ℕ) → road-within at o None ≡ Err (Form at)
 second-none at None = refl

@@ -1,16 +1,15 @@
 -- A case put together from its lines, and its tables' fronts.
-use mathlib.Core.Path.{_≡_, refl, sym, _∙_, ap}
-use mathlib.Core.Bool.{Bool, true, false, cond, _||_}
-use mathlib.Core.List.{List, [], _∷_, _++_, map}
-use Prim.Native.Nat.{ℕ, _+_, _-_, _*_, _≤_, _<_}
-use native.Mathlib.Nat.{mul-le-mul-right, mul-le-mul-left}
+use mathlib.Core.Path.{_≡_, sym, _∙_, ap}
+use mathlib.Core.Bool.{_||_}
+use mathlib.Core.List.{List, _++_, map}
+use Prim.Native.Nat.{ℕ, _+_, _-_, _*_, _≤_}
+use native.Mathlib.Nat.{mul-le-mul-right}
 use native.Mathlib.Omega.{arith}
 use borrow.Rule.Slice.PartMut.{postOf}
 use lib.Dec.{ltb}
 use lib.ListN.{length, take, drop}
 use Rattle.std.specs.declared.option.Option.{Option}
-use Rattle.std.specs.declared.result.Result.{Result}
-use Rattle.std.specs.declared.result.Result.the-variants.{Ok, Err}
+use Rattle.std.specs.declared.result.Result.the-variants.{Ok}
 use Rattle.std.proofs.shelf.Lists.{take-at, drop-at, length-take-le}
 use Rattle.std.specs.Options.{mapped}
 use Rattle.routing.specs.declared.cells.Head.{Head}
@@ -18,11 +17,10 @@ use Rattle.routing.specs.declared.cells.Place.{Place}
 use Rattle.routing.specs.declared.cells.Road.{Road}
 use Rattle.texts.specs.Arcs.{road-fields}
 use Rattle.std.proofs.shelf.Tests.{le-ltb, cond-false, or-from}
-use Rattle.texts.specs.declared.faults.TextFault.{TextFault}
-use Rattle.texts.specs.Judging.{State, Judged, here, _>>=_}
+use Rattle.texts.specs.Judging.{here}
 use Rattle.texts.specs.Lines.{Heading, Stop, head-due, head-fields, place-fields}
 use Rattle.texts.specs.Tables.{places-due, rows-due}
-use Rattle.texts.specs.Cases.{Case, side, case-due, nothing-after, case-judged, case-of, fits-tables, Granted}
+use Rattle.texts.specs.Cases.{side, nothing-after, case-judged, case-of, fits-tables, Granted}
 
 pub square : (n : ℕ) → n ≤ 60 → (n + 1) * (n + 1) ≤ 3721
 square n h =
@@ -31,8 +29,9 @@ square n h =
     omega arith
 
 module _ (text : List ℕ) (h : Heading) (a b d : ℕ) (ps : List Stop) (rs : List (Option (ℕ × ℕ))) where
-  pub whole : head-due (length text) (here text 0) ≡ Ok (h, here text a) → places-due (length text) (side h) (here text a) ≡ Ok (ps, here text b) → rows-due (length text) (side h) (here text b) ≡ Ok (rs, here text d) → length text ≤ d → case-judged text ≡ Ok (record { head = h; places = ps; arcs = rs })
-  whole e f g over = let t = le-ltb d (length text) over in rw (e, f, g, t)
+  pub whole : head-due (length text) (here text 0) ≡ Ok (h, here text a) → places-due (length text) (side h) (here text a) ≡ Ok (ps, here text b) → rows-due (length text) (side h) (here text b) ≡ Ok (rs, here text d) → (u : Unit {0}) → Ok u ≡ nothing-after (length text) d → case-judged text ≡ Ok (record { head = h; places = ps; arcs = rs })
+  unfolding case-judged
+  whole e f g u last = rw (e, f, g, ← last)
 
 -- a part from the start is as long as asked for
 pub part-long : {X : Type 0} (xs : List X) (n : ℕ) → n ≤ length xs → length (take (n - 0) (drop 0 xs)) ≡ n

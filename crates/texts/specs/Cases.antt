@@ -1,7 +1,7 @@
 -- What a case's text says, and what reading it answers and writes.
 use mathlib.Core.Path.{_≡_}
-use mathlib.Core.Bool.{Bool, cond, _||_}
-use mathlib.Core.List.{List, [], _∷_, map}
+use mathlib.Core.Bool.{cond, _||_}
+use mathlib.Core.List.{List, map}
 use Prim.Native.Nat.{ℕ, _+_, _*_}
 use lib.Dec.{ltb}
 use lib.ListN.{length, take, drop}
@@ -38,11 +38,15 @@ case-due end s =
     Ok (record { head = h; places = places; arcs = arcs }, s)
 
 -- a byte after the last line is one too many
-abbrev pub nothing-after : {X : Type 0} → ℕ → X → State → Result X TextFault
-nothing-after end x s = cond (ltb (s .0) end) (Err (Count (s .0))) (Ok x)
+abbrev pub nothing-after : ℕ → ℕ → Result (Unit {0}) TextFault
+nothing-after end at = cond (ltb at end) (Err (Count at)) (Ok tt)
 
-abbrev pub case-judged : List ℕ → Result Case TextFault
-case-judged text = case-due (length text) (here text 0) >>= nothing-after (length text)
+abbrev pub when : {X : Type 0} → Result (Unit {0}) TextFault → X → Result X TextFault
+when (Ok u) x = Ok x
+when (Err f) x = Err f
+
+unfoldable pub case-judged : List ℕ → Result Case TextFault
+case-judged text = case-due (length text) (here text 0) >>= λ c s. when (nothing-after (length text) (s .0)) c
 
 -- the tables' lengths are looked at last
 abbrev pub fits-tables : ℕ → ℕ → Result Case TextFault → Result Case TextFault

@@ -6,7 +6,7 @@ use lib.ListN.{length, take, drop}
 use Rattle.std.specs.declared.result.Result.{Result}
 use Rattle.std.specs.declared.result.Result.the-variants.{Ok, Err}
 use Rattle.texts.specs.declared.faults.TextFault.{TextFault}
-use Rattle.texts.specs.declared.faults.TextFault.the-variants.{Form, Count, Range, ShortTable}
+use Rattle.texts.specs.declared.faults.TextFault.the-variants.{Count}
 use Rattle.texts.specs.declared.scan.Word.{Word}
 use Rattle.texts.specs.Tokens.{Token, word, feed, ahead}
 

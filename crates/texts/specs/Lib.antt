@@ -7,3 +7,4 @@ pub mod Lines
 pub mod Tables
 pub mod Cases
 pub mod Plans
+pub mod Written

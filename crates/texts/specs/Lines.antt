@@ -1,7 +1,7 @@
 -- The lines of a case: its head, a place, and a row of arcs.
 use mathlib.Core.Path.{_≡_}
-use mathlib.Core.Bool.{Bool, cond}
-use mathlib.Core.List.{List, [], _∷_}
+use mathlib.Core.Bool.{cond}
+use mathlib.Core.List.{List}
 use Prim.Native.Nat.{ℕ, _≤_}
 use lib.Dec.{eqb}
 use lib.ListN.{length}
@@ -36,7 +36,7 @@ abbrev pub ended : {X : Type 0} → X → Result State TextFault → Judged X
 ended x (Ok s) = Ok (x, s)
 ended x (Err f) = Err f
 
--- the word M
+-- the word M, and then the rest of the head
 abbrev pub mark-due : ℕ → State → Result State TextFault
 mark-due end s = word-due end s >>= λ w s. cond (is-byte 77 (w .1)) (Ok s) (Err (Form (w .0)))
 

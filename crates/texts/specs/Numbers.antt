@@ -1,7 +1,7 @@
 -- Number words: which words they are, which numbers they write, and a number due within bounds.
 use mathlib.Core.Path.{_≡_}
 use mathlib.Core.Bool.{Bool, cond, not, _&&_, _||_}
-use mathlib.Core.List.{List, [], _∷_}
+use mathlib.Core.List.{List}
 use Prim.Native.Nat.{ℕ, _≤_}
 use lib.Dec.{eqb, leb}
 use lib.ListN.{length, getD}
@@ -16,15 +16,12 @@ use Rattle.texts.specs.declared.faults.TextFault.the-variants.{Form, Range}
 use Rattle.texts.specs.declared.numbers.Number.{Number}
 use Rattle.texts.specs.Judging.{State, Judged, here, _>>=_, word-due}
 
--- 1 to 9 digits, the first of several no 0
-abbrev pub sized : List ℕ → Bool
-sized w = leb 1 (length w) && leb (length w) 9
-
-abbrev pub needless : List ℕ → Bool
-needless w = leb 2 (length w) && eqb (getD w 0 0) 48
+-- 1 to 9 bytes, the first of several no 0
+abbrev pub shaped : List ℕ → Bool
+shaped w = leb 1 (length w) && (leb (length w) 9 && (eqb (length w) 1 || not (eqb (getD w 0 0) 48)))
 
 abbrev pub number-word : List ℕ → Bool
-number-word w = sized w && (not (needless w) && allDigits w)
+number-word w = shaped w && allDigits w
 
 abbrev pub numeral : List ℕ → Option ℕ
 numeral w = cond (number-word w) (Some (value 10 w)) None

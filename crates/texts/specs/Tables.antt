@@ -1,6 +1,6 @@
 -- The tables of a case: a line for each place, and a row of arcs for each place.
 use mathlib.Core.Path.{_≡_}
-use mathlib.Core.List.{List, [], _∷_, map}
+use mathlib.Core.List.{List, map}
 use Prim.Native.Nat.{ℕ, _≤_}
 use lib.ListN.{length}
 use Rattle.std.specs.Joined.{joined}

@@ -1,7 +1,8 @@
 // Reading a case into tables that are lent.
 ghost use mathlib.Core.Path.{_≡_};
 ghost use lib.ListN.{length};
-ghost use Rattle.texts.specs.Cases.{case-judged, CaseJudged, CaseRead};
+ghost use Rattle.texts.specs.Cases.{nothing-after, case-judged, CaseJudged, CaseRead};
+ghost use Rattle.texts.specs.Written.{CasesAsWritten};
 use crate::faults::TextFault;
 use crate::lines::HeadLine;
 use crate::lines::next_head;
@@ -10,6 +11,17 @@ use crate::tables::read_rows;
 use routing::cells::Head;
 use routing::cells::Place;
 use routing::cells::Road;
+
+// Refuses a byte from `at` on.
+fn nothing_after(text: &[u8], at: usize) -> Result<(), TextFault>
+    ensures { λ r. ⌜ r ≡ nothing-after (length (now (text .entry))) at ⌝ }
+{
+    if at < text.len() {
+        Err(TextFault::Count(at))
+    } else {
+        Ok(())
+    }
+}
 
 // The whole text judged: its head, with the places and the arcs in the fronts of the two tables.
 fn judge_case(
@@ -24,15 +36,12 @@ fn judge_case(
     let side = head.customers as usize + 1;
     let next = read_places(text, next, &mut places[0..side])?;
     let next = read_rows(text, next, side, &mut arcs[0..side * side])?;
-    if next < text.len() {
-        return Err(TextFault::Count(next));
-    }
+    nothing_after(text, next)?;
     Ok(head)
 }
 
-// Reads a case: its head is answered, and its places and arcs are written to the fronts of the
-// tables, the arc from i to j at i times the number of places, plus j. A refused text writes nothing.
-pub fn read_case(
+// Judges the text aside, looks at the tables' lengths, and then copies the case to their fronts.
+fn fill_tables(
     text: &[u8],
     places: &mut [Place],
     arcs: &mut [Option<Road>],
@@ -55,4 +64,17 @@ pub fn read_case(
     places[0..side].copy_from_slice(&stops[0..side]);
     arcs[0..side * side].copy_from_slice(&roads[0..side * side]);
     Ok(head)
+}
+
+// Reads a case: its head is answered, and its places and arcs are written to the fronts of the
+// tables, the arc from i to j at i times the number of places, plus j. A refused text writes nothing.
+pub fn read_case(
+    text: &[u8],
+    places: &mut [Place],
+    arcs: &mut [Option<Road>],
+) -> Result<Head, TextFault>
+    ensures answer { λ r. ⌜ CaseRead (now (text .entry)) (now (places .entry)) (now (arcs .entry)) r (now (places .exit)) (now (arcs .exit)) ⌝ }
+    ensures written { λ _. ⌜ CasesAsWritten (now (text .entry)) ⌝ }
+{
+    fill_tables(text, places, arcs)
 }

@@ -7,3 +7,5 @@ mod numbers;
 pub mod plans;
 mod scan;
 mod tables;
+#[cfg(test)]
+mod tests;

@@ -3,7 +3,7 @@ ghost use mathlib.Core.Path.{_≡_};
 ghost use Prim.Native.Nat.{_≤_};
 ghost use lib.ListN.{length};
 ghost use Rattle.std.specs.Vec.{made};
-ghost use Rattle.texts.specs.Numbers.{numeral, within, number-due, NumberRead};
+ghost use Rattle.texts.specs.Numbers.{shaped, numeral, within, number-due, NumberRead};
 ghost use Rattle.texts.specs.Judging.{here};
 use crate::faults::TextFault;
 use crate::scan::Word;
@@ -16,13 +16,17 @@ pub struct Number {
     pub next: usize,
 }
 
+// 1 to 9 bytes, the first of several no zero.
+fn is_shaped(word: &[u8]) -> bool
+    ensures { λ r. ⌜ r ≡ shaped (now (word .entry)) ⌝ }
+{
+    word.len() >= 1 && word.len() <= 9 && (word.len() == 1 || word[0] != b'0')
+}
+
 pub fn number_of(word: &[u8]) -> Option<u32>
     ensures { λ r. ⌜ r ≡ numeral (now (word .entry)) ⌝ }
 {
-    if word.len() == 0 || word.len() > 9 {
-        return None;
-    }
-    if word.len() > 1 && word[0] == b'0' {
+    if !is_shaped(word) {
         return None;
     }
     let mut value: u32 = 0;

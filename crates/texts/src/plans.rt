@@ -3,6 +3,7 @@ ghost use mathlib.Core.Path.{_≡_};
 ghost use Prim.Native.Nat.{_≤_};
 ghost use lib.ListN.{length};
 ghost use Rattle.texts.specs.Plans.{plan-judged, PlanJudged, PlanRead};
+ghost use Rattle.texts.specs.Written.{PlansAsWritten};
 use crate::faults::TextFault;
 use crate::numbers::number_within;
 use crate::scan::skip_blanks;
@@ -27,9 +28,8 @@ fn judge_plan(text: &[u8], numbers: &mut [u8]) -> Result<usize, TextFault>
     Ok(count)
 }
 
-// Reads a listing of at most 120 numbers to the list's front; the answer is how many there are.
-// A refused text writes nothing.
-pub fn read_plan(text: &[u8], listing: &mut [u8]) -> Result<usize, TextFault>
+// Judges the text aside, looks at the list's length, and then copies the numbers to its front.
+fn fill_listing(text: &[u8], listing: &mut [u8]) -> Result<usize, TextFault>
     ensures { λ r. ⌜ PlanRead (now (text .entry)) (now (listing .entry)) r (now (listing .exit)) ⌝ }
 {
     let mut numbers = [0; 120];
@@ -39,4 +39,13 @@ pub fn read_plan(text: &[u8], listing: &mut [u8]) -> Result<usize, TextFault>
     }
     listing[0..count].copy_from_slice(&numbers[0..count]);
     Ok(count)
+}
+
+// Reads a listing of at most 120 numbers to the list's front; the answer is how many there are.
+// A refused text writes nothing.
+pub fn read_plan(text: &[u8], listing: &mut [u8]) -> Result<usize, TextFault>
+    ensures answer { λ r. ⌜ PlanRead (now (text .entry)) (now (listing .entry)) r (now (listing .exit)) ⌝ }
+    ensures written { λ _. ⌜ PlansAsWritten (now (text .entry)) ⌝ }
+{
+    fill_listing(text, listing)
 }

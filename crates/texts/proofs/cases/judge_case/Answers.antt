@@ -1,19 +1,37 @@
-use mathlib.Core.Path.{_≡_, sym, _∙_, ap}
+use mathlib.Core.Path.{sym, _∙_, ap}
 use mathlib.Core.List.{map}
-use Prim.Native.Nat.{_-_, _+_, _*_, _≤_}
+use Prim.Native.Nat.{_+_, _*_}
 use native.Mathlib.Omega.{arith}
-use lib.ListN.{length, take, drop}
+use borrow.Author.Needs.{needs}
+use lib.ListN.{length}
 use Rattle.std.specs.Options.{mapped}
 use Rattle.std.specs.declared.result.Result.the-variants.{Ok}
 use Rattle.texts.specs.Judging.{here}
 use Rattle.texts.specs.Arcs.{road-fields}
 use Rattle.texts.specs.Lines.{head-fields, place-fields}
 use Rattle.texts.specs.Tables.{places-due}
+use Rattle.texts.specs.Cases.{case-judged}
 use Rattle.texts.proofs.Whole.{square, whole, part-long, written}
 use Rattle.texts.proofs.cases.judge_case.Needs as need
 
 pub part-read-rows-end : need.part-read-rows-end
 part-read-rows-end c = let p = square (c .in-Continue-head .field-0 .head .customers) (c .in-Continue-head .field-0 .head .few) in omega arith
+
+pub returns-in-Break-head : need.returns-in-Break-head
+unfolding case-judged
+returns-in-Break-head c = search needs
+
+pub returns-in-Break-next : need.returns-in-Break-next
+unfolding case-judged
+returns-in-Break-next c = search needs
+
+pub returns-in-Break-next-2 : need.returns-in-Break-next-2
+unfolding case-judged
+returns-in-Break-next-2 c = search needs
+
+pub returns-in-Break-nothing-after : need.returns-in-Break-nothing-after
+unfolding case-judged
+returns-in-Break-nothing-after c = search needs
 
 pub returns : need.returns
 returns c =
@@ -31,7 +49,8 @@ returns c =
     (c .in-Continue-head .ensures tt .0)
     (ap (λ k. places-due (length text) k (here text (c .in-Continue-head .field-0 .next))) (sym long) ∙ c .in-Continue-next .ensures tt .0)
     (c .in-Continue-next-2 .ensures tt .0)
-    (c .if-next-text .left)
+    (c .in-Continue-nothing-after .field-0)
+    (c .in-Continue-nothing-after .ensures tt)
     ∙ (λ i. Ok (record {
       head = head-fields h;
       places = map place-fields (sym (written ps places n (c .read-places .kept .cells ∙ long)) i);

@@ -1,22 +1,26 @@
 use mathlib.Core.Path.{sym, _∙_}
-use mathlib.Core.Logic.{_⊎_, inl, inr}
-use Prim.Native.Nat.{_≤_, _<_}
+use Prim.Native.Nat.{_<_}
 use native.Mathlib.Omega.{arith}
-use borrow.Author.Needs.{needs}
 use Rattle.std.proofs.shelf.Lists.{at-drop-all}
 use Rattle.std.specs.Reads.{valueAfter}
 use Rattle.std.specs.shelf.Text.{allDigits}
-use Rattle.texts.proofs.Numerals.{more-value, more-digits, no-digit, more-bound, small, no-number, a-number}
+use Rattle.texts.proofs.Numerals.{more-value, more-digits, no-digit, more-bound, small, no-number, a-number, few-digits}
 use Rattle.texts.proofs.numbers.number_of.Needs as need
 
 pub returns-then-not-is-ascii-digit : need.returns-then-not-is-ascii-digit
 returns-then-not-is-ascii-digit c = no-number (c .args .word .now) (sym (c .loop-b .inv .1) ∙ no-digit (c .args .word .now) (c .loop-b .b-index) (c .loop-b-test .taken) (sym (c .if-not-is-ascii-digit .ensures tt .value)))
 
 pub mul-value : need.mul-value
-mul-value c = let p : c .loop-b .value < 100000000 = small (c .loop-b .value) (c .loop-b .b-index) (c .loop-b .inv .2) (omega arith) in omega arith
+mul-value c =
+    let few = few-digits (c .args .word .now) (sym (c .if-not-is-shaped .ensures tt)) in
+    let p : c .loop-b .value < 100000000 = small (c .loop-b .value) (c .loop-b .b-index) (c .loop-b .inv .2) (omega arith) in
+    omega arith
 
 pub add-value : need.add-value
-add-value c = let p : c .loop-b .value < 100000000 = small (c .loop-b .value) (c .loop-b .b-index) (c .loop-b .inv .2) (omega arith) in omega (arith, c .if-not-is-ascii-digit .ensures tt .cases)
+add-value c =
+    let few = few-digits (c .args .word .now) (sym (c .if-not-is-shaped .ensures tt)) in
+    let p : c .loop-b .value < 100000000 = small (c .loop-b .value) (c .loop-b .b-index) (c .loop-b .inv .2) (omega arith) in
+    omega (arith, c .if-not-is-ascii-digit .ensures tt .cases)
 
 pub loop-b-again : need.loop-b-again
 loop-b-again c =
@@ -29,6 +33,6 @@ loop-b-again c =
 pub returns : need.returns
 returns c =
     let w = c .args .word .now in
-    a-number w (c .loop-b .value) (omega arith) (omega arith) (search needs)
+    a-number w (c .loop-b .value) (sym (c .if-not-is-shaped .ensures tt))
     (sym (c .loop-b .inv .1) ∙ at-drop-all allDigits w (c .loop-b .b-index) (omega arith))
     (sym (at-drop-all (valueAfter 10 (c .loop-b .value)) w (c .loop-b .b-index) (omega arith)) ∙ c .loop-b .inv .0)

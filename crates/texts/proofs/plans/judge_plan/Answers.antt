@@ -1,11 +1,9 @@
-use mathlib.Core.Path.{_≡_, sym, _∙_, ap}
-use mathlib.Core.List.{_∷_, []}
-use Prim.Native.Nat.{_-_, _+_, _<_}
+use mathlib.Core.Path.{sym, _∙_}
+use Prim.Native.Nat.{_-_, _+_}
 use native.Mathlib.Omega.{arith}
-use lib.ListN.{length, take, drop}
+use lib.ListN.{take}
 use Rattle.std.proofs.shelf.Lists.{take-more-set}
 use Rattle.std.proofs.shelf.Results.{err-from-errBy}
-use Rattle.texts.specs.Tokens.{ahead, words}
 use Rattle.texts.specs.Plans.{listing-judged}
 use Rattle.texts.proofs.Listings.{in-front, listing-more, listing-fault, listing-full, listing-all}
 use Rattle.texts.proofs.plans.judge_plan.Needs as need

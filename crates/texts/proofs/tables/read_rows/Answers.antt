@@ -1,12 +1,12 @@
 use mathlib.Core.Path.{_≡_, sym, _∙_, ap}
-use mathlib.Core.List.{map, _++_}
+use mathlib.Core.List.{map}
 use Prim.Native.Nat.{_-_, _+_, _*_, _≤_}
 use native.Mathlib.Omega.{arith}
-use lib.ListN.{length, take, drop}
+use lib.ListN.{length, take}
 use Rattle.std.proofs.shelf.Lists.{take-all, map-append}
 use Rattle.std.proofs.shelf.Results.{err-from-errBy}
 use Rattle.std.specs.Options.{mapped}
-use Rattle.std.specs.declared.result.Result.the-variants.{Ok, Err}
+use Rattle.std.specs.declared.result.Result.the-variants.{Ok}
 use Rattle.texts.specs.Judging.{here, times}
 use Rattle.texts.specs.Arcs.{road-fields}
 use Rattle.texts.specs.Lines.{row-due}
