@@ -4,7 +4,7 @@ use Rattle.texts.specs.declared.faults.TextFault.{TextFault}
 use Rattle.texts.specs.Faults.{fault-number, fault-place}
 use Rattle.replay.specs.Faults.{listing-denial}
 use Rattle.files.specs.declared.faults.FileFault.{FileFault}
-use Rattle.files.specs.declared.faults.FileFault.the-variants.{CaseText, PlanText, Listing}
+use Rattle.files.specs.declared.faults.FileFault.the-variants.{CaseRefused, PlanRefused, Listing}
 use Rattle.files.specs.declared.faults.Part.{Part}
 use Rattle.files.specs.declared.faults.Part.the-variants.{Case, Plan}
 
@@ -12,11 +12,11 @@ abbrev pub text-denial : TextFault → Denial
 text-denial f = record { number = fault-number f; from = 0; to = 0; place = fault-place f }
 
 abbrev pub file-denial : FileFault → Denial
-file-denial (CaseText f) = text-denial f
-file-denial (PlanText f) = text-denial f
+file-denial (CaseRefused f) = text-denial f
+file-denial (PlanRefused f) = text-denial f
 file-denial (Listing f) = listing-denial f
 
 abbrev pub file-part : FileFault → Part
-file-part (CaseText f) = Case
-file-part (PlanText f) = Plan
+file-part (CaseRefused f) = Case
+file-part (PlanRefused f) = Plan
 file-part (Listing f) = Plan

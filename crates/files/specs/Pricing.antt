@@ -16,17 +16,20 @@ use Rattle.replay.specs.declared.faults.ListingFault.{ListingFault}
 use Rattle.replay.specs.Answer.{price-answer}
 use Rattle.replay.specs.Listing.{written}
 use Rattle.replay.specs.Prices.{price-of}
-use Rattle.texts.specs.Cases.{case-answer, case-of}
+use Rattle.texts.specs.Cases.{case-judged, case-answer, case-of}
 use Rattle.texts.specs.Plans.{plan-answer}
+use Rattle.texts.specs.Written.{CaseText, PlanText}
 use Rattle.files.specs.declared.faults.FileFault.{FileFault}
-use Rattle.files.specs.declared.faults.FileFault.the-variants.{CaseText, PlanText, Listing}
+use Rattle.files.specs.declared.faults.FileFault.the-variants.{CaseRefused, PlanRefused, Listing}
 
--- the case text is that of a network: it says the head and the fronts of tables with this meaning
+-- the case text is that of a network: its words are those of a head and of the fronts of tables, written out, with this
+-- meaning
 pub record CaseNetwork (text : List ℕ) (m : Meaning) : Type 0 where
   pub head : Head
   pub places : List Place
   pub arcs : List (Option Road)
-  pub says : case-answer text 61 3721 ≡ Ok (case-of head places arcs)
+  pub written : CaseText text (case-of head places arcs)
+  pub read : case-judged text ≡ Ok (case-of head places arcs)
   pub means : m ≡ table-meaning head places arcs
 
 abbrev pub listing-answer : Result Priced ListingFault → Result Priced FileFault
@@ -46,12 +49,12 @@ pub record PricedPlan (case plan : List ℕ) (p : Priced) : Type 0 where
   pub network : Meaning
   pub is-network : CaseNetwork case network
   pub routes : List (List ℕ)
-  pub is-listing : plan-answer plan 120 ≡ Ok (written routes)
+  pub is-listing : PlanText plan (written routes)
   pub is-plan : Plan network routes
   pub price : p ≡ price-of network routes
 
 abbrev pub FilesPriced : List ℕ → List ℕ → Result Priced FileFault → Type 0
 FilesPriced case plan (Ok p) = BothRead case plan (Ok p) × PricedPlan case plan p
-FilesPriced case plan (Err (CaseText f)) = case-answer case 61 3721 ≡ Err f
-FilesPriced case plan (Err (PlanText f)) = (m : Meaning) × CaseNetwork case m × (plan-answer plan 120 ≡ Err f)
+FilesPriced case plan (Err (CaseRefused f)) = case-answer case 61 3721 ≡ Err f
+FilesPriced case plan (Err (PlanRefused f)) = (m : Meaning) × CaseNetwork case m × (plan-answer plan 120 ≡ Err f)
 FilesPriced case plan (Err (Listing f)) = BothRead case plan (Err (Listing f))

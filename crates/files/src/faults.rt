@@ -10,14 +10,15 @@ use texts::faults::TextFault;
 pub enum Part {
     Case,
     Plan,
+    Tree,
 }
 
 #[derive(Clone, Copy)]
 pub enum FileFault {
     // The case text is refused.
-    CaseText(TextFault),
+    CaseRefused(TextFault),
     // The plan text is refused.
-    PlanText(TextFault),
+    PlanRefused(TextFault),
     // The plan's listing is denied.
     Listing(ListingFault),
 }
@@ -30,7 +31,8 @@ pub impl From<ListingFault> for FileFault as ListingFileFault {
     }
 }
 
-fn text_denial(fault: TextFault) -> Denial
+// The number and place of a text's fault; it names no arc.
+pub fn text_denial(fault: TextFault) -> Denial
     ensures { λ r. ⌜ r ≡ text-denial fault ⌝ }
 {
     Denial {
@@ -47,8 +49,8 @@ impl FileFault {
         ensures { λ r. ⌜ r ≡ file-denial (now (self .entry)) ⌝ }
     {
         match self {
-            FileFault::CaseText(fault) => text_denial(*fault),
-            FileFault::PlanText(fault) => text_denial(*fault),
+            FileFault::CaseRefused(fault) => text_denial(*fault),
+            FileFault::PlanRefused(fault) => text_denial(*fault),
             FileFault::Listing(fault) => fault.denial(),
         }
     }
@@ -57,8 +59,8 @@ impl FileFault {
         ensures { λ r. ⌜ r ≡ file-part (now (self .entry)) ⌝ }
     {
         match self {
-            FileFault::CaseText(_) => Part::Case,
-            FileFault::PlanText(_) => Part::Plan,
+            FileFault::CaseRefused(_) => Part::Case,
+            FileFault::PlanRefused(_) => Part::Plan,
             FileFault::Listing(_) => Part::Plan,
         }
     }

@@ -14,15 +14,25 @@ pub impl fmt::Display for Part as PartDisplay {
         match self {
             Part::Case => write!(f, "case"),
             Part::Plan => write!(f, "plan"),
+            Part::Tree => write!(f, "tree"),
         }
     }
 }
 
 #[derive(Clone, Copy)]
 pub enum Line {
+    // The plan is one of the case.
     Priced {
         cost: u32,
         routes: usize,
+    },
+    // No plan is cheaper.
+    Optimal {
+        cost: u32,
+    },
+    // The tree is not finished.
+    Open {
+        decisions: usize,
     },
     Fault {
         number: u8,
@@ -40,6 +50,8 @@ pub impl fmt::Display for Line as LineDisplay {
     fn fmt<W: fmt::Write>(&self, f: &mut fmt::Formatter<W>) -> fmt::Result {
         match *self {
             Line::Priced { cost, routes } => write!(f, "priced {cost} routes {routes}"),
+            Line::Optimal { cost } => write!(f, "optimal {cost}"),
+            Line::Open { decisions } => write!(f, "open {decisions}"),
             Line::Fault {
                 number,
                 part,

@@ -27,14 +27,14 @@ fn price_over(
 {
     let head = match read_case(case, places, arcs) {
         Ok(head) => head,
-        Err(fault) => return Err(FileFault::CaseText(fault)),
+        Err(fault) => return Err(FileFault::CaseRefused(fault)),
     };
     let count = match read_plan(plan, listing) {
         Ok(count) => count,
-        Err(fault) => return Err(FileFault::PlanText(fault)),
+        Err(fault) => return Err(FileFault::PlanRefused(fault)),
     };
     let Some(network) = TableNetwork::new(head, places, arcs) else {
-        return Err(FileFault::CaseText(TextFault::ShortTable));
+        return Err(FileFault::CaseRefused(TextFault::ShortTable));
     };
     Ok(price(&network, &listing[0..count])?)
 }
