@@ -1,20 +1,13 @@
-// Reads case.txt and plan.txt from the current folder, and prints one line.
-use files::judging::judge_files;
+// Reads case.txt, plan.txt and tree.bin from the current folder, and prints one line.
 use files::lines::LineDisplay;
-use std::fs;
+use files::reading::contents;
 use std::io;
-
-// A file's bytes; one that cannot be read counts as empty.
-fn contents(rt: &LibcRuntime, path: &str) -> Vec<u8> {
-    match fs::read(rt, path) {
-        Ok(bytes) => bytes,
-        Err(_) => Vec::new(rt.alloc()),
-    }
-}
+use verdict::judging::judge;
 
 fn main(rt: LibcRuntime) -> io::Result<()> {
     let case = contents(&rt, "case.txt");
     let plan = contents(&rt, "plan.txt");
-    let line = judge_files(case.as_slice(), plan.as_slice());
+    let tree = contents(&rt, "tree.bin");
+    let line = judge(case.as_slice(), plan.as_slice(), tree.as_slice());
     println!(rt, "{line}")
 }

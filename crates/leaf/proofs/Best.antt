@@ -16,10 +16,11 @@ use Rattle.std.specs.shelf.Lists.{All, Has}
 use Rattle.std.specs.declared.option.Option.{Option}
 use Rattle.std.specs.declared.option.Option.the-variants.{None, Some}
 use Rattle.measures.specs.Measure.{Measuring}
-use Rattle.leaf.specs.Rule.{Entry, best, larger}
+use Rattle.leaf.specs.declared.potentials.Potential.{Potential}
+use Rattle.leaf.specs.Rule.{best, larger}
 
 -- an entry that counts at the place j and the state y
-pub record Counts {S : Type 0} (μ : Measuring S) (j : ℕ) (y : S) (e : Entry S) : Type 0 where
+pub record Counts {S : Type 0} (μ : Measuring S) (j : ℕ) (y : S) (e : Potential S) : Type 0 where
   pub at : e .place ≡ j
   pub below : μ .at-most (e .corner) y ≡ true
 
@@ -46,20 +47,20 @@ larger-right v w (Some u) b = let e = some-same u (b .top) (b .is) in omega (ari
 
 module _ {S : Type 0} (μ : Measuring S) (j : ℕ) (y : S) where
   -- the test that `best` makes of an entry
-  abbrev test : Entry S → Bool
+  abbrev test : Potential S → Bool
   test e = eqb (e .place) j && μ .at-most (e .corner) y
 
-  best-with : (e : Entry S) (es : List (Entry S)) → test e ≡ true → best μ (e ∷ es) j y ≡ Some (larger (e .value) (best μ es j y))
+  best-with : (e : Potential S) (es : List (Potential S)) → test e ≡ true → best μ (e ∷ es) j y ≡ Some (larger (e .value) (best μ es j y))
   best-with e es passed = cond-true _ _ _ passed
 
-  best-without : (e : Entry S) (es : List (Entry S)) → test e ≡ false → best μ (e ∷ es) j y ≡ best μ es j y
+  best-without : (e : Potential S) (es : List (Potential S)) → test e ≡ false → best μ (e ∷ es) j y ≡ best μ es j y
   best-without e es failed = cond-false _ _ _ failed
 
-  counts-from : (e : Entry S) → test e ≡ true → Counts μ j y e
+  counts-from : (e : Potential S) → test e ≡ true → Counts μ j y e
   counts-from e passed = let parts = and-parts _ _ passed in record { at = eqb-true (e .place) j (parts .0); below = parts .1 }
 
   -- the best is the value of an entry that counts, of which holds what holds of every entry
-  pub best-reached : (P : Entry S → Type 0) (es : List (Entry S)) (h : ℤ) → All P es → best μ es j y ≡ Some h → (e : Entry S) × P e × Counts μ j y e × (e .value ≡ h)
+  pub best-reached : (P : Potential S → Type 0) (es : List (Potential S)) (h : ℤ) → All P es → best μ es j y ≡ Some h → (e : Potential S) × P e × Counts μ j y e × (e .value ≡ h)
   best-reached P [] h all is = absurd (let z : _≡_ {A = ℕ} 0 1 = cc in omega arith)
   best-reached P (e ∷ es) h all is =
       ⊎-elim
@@ -70,7 +71,7 @@ module _ {S : Type 0} (μ : Measuring S) (j : ℕ) (y : S) where
       (cases-bool (test e))
 
   -- what bounds a value over fewer entries does so over one more
-  bounds-more : (e : Entry S) (es : List (Entry S)) (v : ℤ) → Bounded (best μ es j y) v → Bounded (best μ (e ∷ es) j y) v
+  bounds-more : (e : Potential S) (es : List (Potential S)) (v : ℤ) → Bounded (best μ es j y) v → Bounded (best μ (e ∷ es) j y) v
   bounds-more e es v b =
       ⊎-elim
       (λ passed. record { top = larger (e .value) (best μ es j y); is = best-with e es passed; above = larger-right (e .value) v (best μ es j y) b })
@@ -78,7 +79,7 @@ module _ {S : Type 0} (μ : Measuring S) (j : ℕ) (y : S) where
       (cases-bool (test e))
 
   -- where an entry counts there is a best, and it is at least the entry's value
-  pub best-bounds : (es : List (Entry S)) → All (λ e. Counts μ j y e → Bounded (best μ es j y) (e .value)) es
+  pub best-bounds : (es : List (Potential S)) → All (λ e. Counts μ j y e → Bounded (best μ es j y) (e .value)) es
   best-bounds [] = tt
   best-bounds (e ∷ es) = (
     λ c. record {
@@ -89,5 +90,5 @@ module _ {S : Type 0} (μ : Measuring S) (j : ℕ) (y : S) where
     all-weaker (λ x. Counts μ j y x → Bounded (best μ es j y) (x .value)) (λ x. Counts μ j y x → Bounded (best μ (e ∷ es) j y) (x .value)) (λ x b c. bounds-more e es (x .value) (b c)) es (best-bounds es),
   )
 
-  pub best-bounds-each : (es : List (Entry S)) (e : Entry S) → Has es e → Counts μ j y e → Bounded (best μ es j y) (e .value)
+  pub best-bounds-each : (es : List (Potential S)) (e : Potential S) → Has es e → Counts μ j y e → Bounded (best μ es j y) (e .value)
   best-bounds-each es e has = all-has (λ x. Counts μ j y x → Bounded (best μ es j y) (x .value)) es e (best-bounds es) has

@@ -1,4 +1,13 @@
 pub mod AlongRoute
+pub mod Allowed
 pub mod Best
 pub mod Bounds
+pub mod Decoding
+pub mod Granted
+pub mod Ordered
+pub mod Products
+pub mod Reading
+pub mod Rows
+pub mod Saying
+pub mod Sought
 pub mod Sums

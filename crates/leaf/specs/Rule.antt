@@ -14,19 +14,14 @@ use Rattle.std.specs.declared.option.Option.the-variants.{None, Some}
 use Rattle.routing.specs.declared.cells.Place.{Place}
 use Rattle.routing.specs.Network.{Meaning}
 use Rattle.measures.specs.Measure.{Measuring, after-arc}
-
--- a completion potential: from the place on, at any state that the corner is at most, what is left costs at least the value
-pub record Entry (S : Type 0) : Type 0 where
-  pub place : ℕ
-  pub corner : S
-  pub value : ℤ
+use Rattle.leaf.specs.declared.potentials.Potential.{Potential}
 
 -- the scale of all values, the van price, a dual for each customer from 1 on, and the entries
 pub record Leaf (S : Type 0) : Type 0 where
   pub scale : ℕ
   pub van-price : ℤ
   pub duals : List ℤ
-  pub entries : List (Entry S)
+  pub entries : List (Potential S)
 
 abbrev pub dual : {S : Type 0} → Leaf S → ℕ → ℤ
 dual leaf c = getD (leaf .duals) (c - 1) (pos 0)
@@ -36,7 +31,7 @@ larger v None = v
 larger v (Some w) = maxZ v w
 
 -- the greatest value among the entries at j whose corner is at most y
-abbrev pub best : {S : Type 0} → Measuring S → List (Entry S) → ℕ → S → Option ℤ
+abbrev pub best : {S : Type 0} → Measuring S → List (Potential S) → ℕ → S → Option ℤ
 best μ [] j y = None
 best μ (e ∷ es) j y = cond (eqb (e .place) j && μ .at-most (e .corner) y) (Some (larger (e .value) (best μ es j y))) (best μ es j y)
 
@@ -51,7 +46,7 @@ abbrev pub Home : {S : Type 0} → Measuring S → Meaning → Leaf S → ℤ �
 Home {S} μ m leaf v s i =
     (cost travel : ℕ) → m .arc i 0 ≡ Some (cost, travel) → (y : S) → after-arc μ m s i 0 ≡ Some y → v ≤ℤ pos (leaf .scale * cost)
 
-abbrev pub EntryHolds : {S : Type 0} → Measuring S → Meaning → Leaf S → Entry S → Type 0
+abbrev pub EntryHolds : {S : Type 0} → Measuring S → Meaning → Leaf S → Potential S → Type 0
 EntryHolds μ m leaf e =
     Home μ m leaf (e .value) (e .corner) (e .place) × ((j : ℕ) → 1 ≤ j → Onward μ m leaf (e .value) (e .corner) (e .place) j)
 

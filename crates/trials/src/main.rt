@@ -1,16 +1,9 @@
 // Judges each case folder that index.txt names, and prints its name and line.
 use files::judging::judge_files;
 use files::lines::LineDisplay;
+use files::reading::contents;
 use std::error::AnyError;
 use std::fs;
-
-// A file's bytes; one that cannot be read counts as empty.
-fn contents(rt: &LibcRuntime, path: &str) -> Vec<u8> {
-    match fs::read(rt, path) {
-        Ok(bytes) => bytes,
-        Err(_) => Vec::new(rt.alloc()),
-    }
-}
 
 fn judge_folder(rt: &LibcRuntime, name: &str) -> Result<(), AnyError> {
     let case_path = format!(rt.alloc(), "{name}/case.txt")?;

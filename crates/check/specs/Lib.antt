@@ -1,0 +1,5 @@
+pub mod Calls
+pub mod Faults
+pub mod Logs
+pub mod Promise
+pub mod States

@@ -1,0 +1,7 @@
+mod Bytes
+mod Directory
+mod Granted
+mod Opened
+mod Stand
+pub mod Whole
+mod Written
