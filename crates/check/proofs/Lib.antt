@@ -1,6 +1,6 @@
 pub mod Doing
+pub mod Feeding
 pub mod Leaves
 pub mod Promises
-pub mod Running
 pub mod Soundness
 pub mod Trees

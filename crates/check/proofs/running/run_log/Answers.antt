@@ -9,7 +9,7 @@ use Rattle.check.specs.Promise.{Promise}
 use Rattle.check.specs.States.{network-of, state-of}
 use Rattle.check.proofs.Leaves.{answer-bounds, answer-opens}
 use Rattle.check.proofs.Promises.{promise}
-use Rattle.check.proofs.Running.{one-more, all-answered, rest-kept}
+use Rattle.check.proofs.Feeding.{one-more, all-answered, rest-kept}
 use Rattle.check.proofs.running.run_log.Needs as need
 
 pub loop-k-again : need.loop-k-again
