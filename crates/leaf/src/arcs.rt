@@ -14,7 +14,7 @@ use measures::measure::Measure;
 use measures::moves::Move;
 
 // The cost of an arc in the leaf's scale.
-pub fn scaled(scale: u16, cost: u32) -> i64
+pub(crate) fn scaled(scale: u16, cost: u32) -> i64
     requires { ⌜ scale ≤ 1000 ⌝ ∗ ⌜ cost ≤ 1000000 ⌝ }
     ensures { λ r. ⌜ r ≡ pos (scale * cost) ⌝ }
 {
@@ -58,7 +58,7 @@ fn keeps_rule<M: Measure>(
 }
 
 // The first end of the arcs from a place, from an end on, at which a value breaks the rule.
-pub fn first_broken<M: Measure>(
+pub(crate) fn first_broken<M: Measure>(
     measure: &M,
     leaf: Held<'_>,
     value: i64,

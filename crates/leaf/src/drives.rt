@@ -26,7 +26,7 @@ fn drive_to<N: Network>(network: &N, from: u8, to: u8) -> Option<(u32, Move)>
 }
 
 // The arcs from a place to every place, home first.
-pub fn drives_from<N: Network>(network: &N, from: u8, row: &mut [Option<(u32, Move)>])
+pub(crate) fn drives_from<N: Network>(network: &N, from: u8, row: &mut [Option<(u32, Move)>])
     requires { ⌜ length (now row) ≡ 61 ⌝ }
     ensures { λ _. ⌜ now (row .exit) ≡ drives (meaning (now (network .entry))) from ⌝ }
 {
@@ -36,7 +36,7 @@ pub fn drives_from<N: Network>(network: &N, from: u8, row: &mut [Option<(u32, Mo
 }
 
 // Turns a place's arcs to another's, which are asked for only where the place changes.
-pub fn turn_to<N: Network>(network: &N, from: u8, place: u8, row: &mut [Option<(u32, Move)>])
+pub(crate) fn turn_to<N: Network>(network: &N, from: u8, place: u8, row: &mut [Option<(u32, Move)>])
     requires { ⌜ now row ≡ drives (meaning (now network)) from ⌝ ∗ ⌜ length (now row) ≡ 61 ⌝ }
     ensures { λ _. ⌜ now (row .exit) ≡ drives (meaning (now (network .entry))) place ⌝ }
 {

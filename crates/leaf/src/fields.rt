@@ -7,7 +7,7 @@ ghost use Rattle.leaf.specs.Fields.{read-scale, read-amount, read-place};
 use crate::faults::LeafFault;
 
 // The number of eight bytes.
-pub fn word_at(bytes: &[u8], at: usize) -> u64
+pub(crate) fn word_at(bytes: &[u8], at: usize) -> u64
     requires { ⌜ at + 8 ≤ length (now bytes) ⌝ }
     ensures { λ r. ⌜ r ≡ little (now (bytes .entry)) at 8 ⌝ }
 {
@@ -24,7 +24,7 @@ pub fn word_at(bytes: &[u8], at: usize) -> u64
 }
 
 // The number of two bytes.
-pub fn short_at(bytes: &[u8], at: usize) -> u16
+pub(crate) fn short_at(bytes: &[u8], at: usize) -> u16
     requires { ⌜ at + 2 ≤ length (now bytes) ⌝ }
     ensures { λ r. ⌜ r ≡ little (now (bytes .entry)) at 2 ⌝ }
 {
@@ -32,7 +32,7 @@ pub fn short_at(bytes: &[u8], at: usize) -> u16
 }
 
 // The scale, where it is in its range.
-pub fn scale_at(bytes: &[u8], at: usize) -> Result<u16, LeafFault>
+pub(crate) fn scale_at(bytes: &[u8], at: usize) -> Result<u16, LeafFault>
     requires { ⌜ at + 2 ≤ length (now bytes) ⌝ }
     ensures { λ r. ⌜ r ≡ read-scale (now (bytes .entry)) at ⌝ }
 {
@@ -44,7 +44,7 @@ pub fn scale_at(bytes: &[u8], at: usize) -> Result<u16, LeafFault>
 }
 
 // A signed number of eight bytes, where it is within a limit.
-pub fn amount_at(bytes: &[u8], at: usize, limit: u64) -> Result<i64, LeafFault>
+pub(crate) fn amount_at(bytes: &[u8], at: usize, limit: u64) -> Result<i64, LeafFault>
     requires { ⌜ at + 8 ≤ length (now bytes) ⌝ }
     ensures { λ r. ⌜ r ≡ read-amount limit (now (bytes .entry)) at ⌝ }
 {
@@ -56,7 +56,7 @@ pub fn amount_at(bytes: &[u8], at: usize, limit: u64) -> Result<i64, LeafFault>
 }
 
 // A customer's number, where there is such a customer.
-pub fn place_at(bytes: &[u8], at: usize, customers: u8) -> Result<u8, LeafFault>
+pub(crate) fn place_at(bytes: &[u8], at: usize, customers: u8) -> Result<u8, LeafFault>
     requires { ⌜ at + 1 ≤ length (now bytes) ⌝ }
     ensures { λ r. ⌜ r ≡ read-place customers (now (bytes .entry)) at ⌝ }
 {
@@ -68,7 +68,7 @@ pub fn place_at(bytes: &[u8], at: usize, customers: u8) -> Result<u8, LeafFault>
 }
 
 // The numbers of a corner, as many as there is room for.
-pub fn words_at(bytes: &[u8], at: usize, room: &mut [u64])
+pub(crate) fn words_at(bytes: &[u8], at: usize, room: &mut [u64])
     requires { ⌜ at + 8 * length (now room) ≤ length (now bytes) ⌝ }
     ensures { λ _. ⌜ now (room .exit) ≡ words (now (bytes .entry)) at (length (now (room .entry))) ⌝ }
 {

@@ -12,7 +12,7 @@ use crate::potentials::PotentialPartialEq;
 use crate::potentials::PotentialPartialOrd;
 
 // Puts entries in order, by place and then by value.
-pub fn sort_entries<S: Copy>(entries: &mut [Potential<S>])
+pub(crate) fn sort_entries<S: Copy>(entries: &mut [Potential<S>])
     ensures shuffled { λ _. ⌜ Shuffled (now (entries .entry)) (now (entries .exit)) ⌝ }
     ensures rising { λ _. ⌜ Rising (now (entries .exit)) ⌝ }
 {
@@ -33,7 +33,7 @@ fn end_after<S: Copy>(sorted: &[Potential<S>], from: usize, place: u8) -> usize
 }
 
 // For each place, how many stand at it or at a lower one.
-pub fn find_ends<S: Copy>(sorted: &[Potential<S>], ends: &mut [usize])
+pub(crate) fn find_ends<S: Copy>(sorted: &[Potential<S>], ends: &mut [usize])
     requires { ⌜ Rising (now sorted) ⌝ ∗ ⌜ length (now ends) ≡ 61 ⌝ }
     ensures { λ _. ⌜ ((j : ℕ) → j < 61 → EndsAt (now (sorted .entry)) j (getD (now (ends .exit)) j 0)) ⌝ }
 {

@@ -9,7 +9,7 @@ use crate::records::corner_at;
 use measures::measure::Measure;
 
 // The state of a stored entry's corner.
-pub fn corner_of<M: Measure>(measure: &M, bytes: &[u8], entry: Potential<usize>) -> M::State
+pub(crate) fn corner_of<M: Measure>(measure: &M, bytes: &[u8], entry: Potential<usize>) -> M::State
     requires { ⌜ Inside (meaning (now measure) .words) (now bytes) entry ⌝ }
     ensures { λ r. ⌜ r ≡ decoded (meaning (now (measure .entry))) (now (bytes .entry)) entry .corner ⌝ }
 {
@@ -20,7 +20,7 @@ pub fn corner_of<M: Measure>(measure: &M, bytes: &[u8], entry: Potential<usize>)
 }
 
 // The greatest value among the entries at a place whose corner is at most a state: the first met from the place's end down.
-pub fn best_value<M: Measure>(
+pub(crate) fn best_value<M: Measure>(
     measure: &M,
     leaf: Held<'_>,
     place: u8,

@@ -52,7 +52,7 @@ fn scaled_below(scale: u16, cost: u32) -> i64
 }
 
 // Denies a leaf whose bound does not reach the cost.
-pub fn check_bound<N: Network, M: Measure>(
+pub(crate) fn check_bound<N: Network, M: Measure>(
     network: &N,
     measure: &M,
     leaf: Held<'_>,

@@ -17,7 +17,7 @@ use crate::potentials::Potential;
 use measures::measure::Measure;
 
 // Whether the record is a leaf's, and of the length that its count says.
-pub fn is_well_sized(words: usize, customers: u8, bytes: &[u8]) -> bool
+pub(crate) fn is_well_sized(words: usize, customers: u8, bytes: &[u8]) -> bool
     requires { ⌜ words ≤ 100 ⌝ }
     ensures { λ r. ⌜ r ≡ well-sized words customers (now (bytes .entry)) ⌝ }
 {
@@ -33,7 +33,7 @@ pub fn is_well_sized(words: usize, customers: u8, bytes: &[u8]) -> bool
 }
 
 // The duals from an offset on, as many as there is room for.
-pub fn read_duals(bytes: &[u8], at: usize, room: &mut [i64]) -> Result<(), LeafFault>
+pub(crate) fn read_duals(bytes: &[u8], at: usize, room: &mut [i64]) -> Result<(), LeafFault>
     requires { ⌜ at + 8 * length (now room) ≤ length (now bytes) ⌝ }
     ensures { λ r. ⌜ Cases r (λ _. read-each (read-amount 1000000000000 (now (bytes .entry))) at 8 (length (now (room .entry))) ≡ Ok (now (room .exit))) (λ f. read-each (read-amount 1000000000000 (now (bytes .entry))) at 8 (length (now (room .entry))) ≡ Err f) ⌝ }
 {
@@ -63,7 +63,7 @@ fn corner_in<M: Measure, const ROOM: usize>(
 }
 
 // The corner whose words stand from an offset on: most take few words, and the room is cleared for each.
-pub fn corner_at<M: Measure>(measure: &M, bytes: &[u8], at: usize) -> Result<M::State, LeafFault>
+pub(crate) fn corner_at<M: Measure>(measure: &M, bytes: &[u8], at: usize) -> Result<M::State, LeafFault>
     requires { ⌜ at + 8 * meaning (now measure) .words ≤ length (now bytes) ⌝ }
     ensures { λ r. ⌜ r ≡ read-corner (meaning (now (measure .entry)) .read (words (now (bytes .entry)) at (meaning (now (measure .entry)) .words))) at ⌝ }
 {
@@ -110,7 +110,7 @@ fn located_at<M: Measure>(
 }
 
 // The entries from an offset on, as many as there is room for.
-pub fn read_entries<M: Measure>(
+pub(crate) fn read_entries<M: Measure>(
     measure: &M,
     customers: u8,
     bytes: &[u8],

@@ -18,7 +18,7 @@ use routing::networks::Network;
 const PLACES: usize = 61;
 
 // Denies the first entry that breaks the rule, at its first arc; the entries stand from an offset on.
-pub fn check_entries<N: Network, M: Measure>(
+pub(crate) fn check_entries<N: Network, M: Measure>(
     network: &N,
     measure: &M,
     leaf: Held<'_>,
@@ -47,7 +47,7 @@ pub fn check_entries<N: Network, M: Measure>(
 }
 
 // Denies the first arc from the depot at which the van price breaks the rule.
-pub fn check_depot<N: Network, M: Measure>(
+pub(crate) fn check_depot<N: Network, M: Measure>(
     network: &N,
     measure: &M,
     leaf: Held<'_>,

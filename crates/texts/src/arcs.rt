@@ -19,7 +19,7 @@ pub struct Arc {
     pub next: usize,
 }
 
-pub fn is_byte(word: &[u8], b: u8) -> bool
+pub(crate) fn is_byte(word: &[u8], b: u8) -> bool
     ensures { λ r. ⌜ r ≡ is-byte b (now (word .entry)) ⌝ }
 {
     word.len() == 1 && word[0] == b
@@ -68,7 +68,7 @@ fn arc_at(word: &[u8], at: usize, diagonal: bool) -> Result<Option<Road>, TextFa
 }
 
 // The line's next word, the arc from `i` to `j`.
-pub fn next_arc(text: &[u8], at: usize, i: usize, j: usize) -> Result<Arc, TextFault>
+pub(crate) fn next_arc(text: &[u8], at: usize, i: usize, j: usize) -> Result<Arc, TextFault>
     requires { ⌜ at ≤ length (now text) ⌝ }
     ensures { λ r. ⌜ ArcRead (now (text .entry)) r (arc-due (length (now (text .entry))) i j (here (now (text .entry)) at)) ⌝ }
 {

@@ -40,7 +40,7 @@ fn next_mark(text: &[u8], at: usize) -> Result<usize, TextFault>
 }
 
 // `M`, the number of customers, the capacity, the least and the most vans.
-pub fn next_head(text: &[u8], at: usize) -> Result<HeadLine, TextFault>
+pub(crate) fn next_head(text: &[u8], at: usize) -> Result<HeadLine, TextFault>
     requires { ⌜ at ≤ length (now text) ⌝ }
     ensures { λ r. ⌜ HeadRead (now (text .entry)) r (head-due (length (now (text .entry))) (here (now (text .entry)) at)) ⌝ }
 {
@@ -60,7 +60,7 @@ pub fn next_head(text: &[u8], at: usize) -> Result<HeadLine, TextFault>
 }
 
 // The load, opening, closing and service of place `i`; the depot, place 0, has neither load nor service.
-pub fn next_place(text: &[u8], at: usize, i: usize) -> Result<PlaceLine, TextFault>
+pub(crate) fn next_place(text: &[u8], at: usize, i: usize) -> Result<PlaceLine, TextFault>
     requires { ⌜ at ≤ length (now text) ⌝ }
     ensures { λ r. ⌜ PlaceRead (now (text .entry)) r (place-due (length (now (text .entry))) i (here (now (text .entry)) at)) ⌝ }
 {

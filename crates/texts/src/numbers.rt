@@ -23,7 +23,7 @@ fn is_shaped(word: &[u8]) -> bool
     word.len() >= 1 && word.len() <= 9 && (word.len() == 1 || word[0] != b'0')
 }
 
-pub fn number_of(word: &[u8]) -> Option<u32>
+pub(crate) fn number_of(word: &[u8]) -> Option<u32>
     ensures { λ r. ⌜ r ≡ numeral (now (word .entry)) ⌝ }
 {
     if !is_shaped(word) {
@@ -40,7 +40,7 @@ pub fn number_of(word: &[u8]) -> Option<u32>
 }
 
 // The number that a word at an offset writes, from `low` to `high`.
-pub fn number_within(word: &[u8], at: usize, low: u32, high: u32) -> Result<u32, TextFault>
+pub(crate) fn number_within(word: &[u8], at: usize, low: u32, high: u32) -> Result<u32, TextFault>
     ensures answer { λ r. ⌜ r ≡ within low high at (numeral (now (word .entry))) ⌝ }
     ensures bounded { λ r. ⌜ made r (λ n. (low ≤ n) × (n ≤ high)) ⌝ }
 {
@@ -57,7 +57,7 @@ pub fn number_within(word: &[u8], at: usize, low: u32, high: u32) -> Result<u32,
 }
 
 // The line's next word, a number from `low` to `high`.
-pub fn next_number(text: &[u8], at: usize, low: u32, high: u32) -> Result<Number, TextFault>
+pub(crate) fn next_number(text: &[u8], at: usize, low: u32, high: u32) -> Result<Number, TextFault>
     requires { ⌜ at ≤ length (now text) ⌝ }
     ensures { λ r. ⌜ NumberRead low high (now (text .entry)) r (number-due (length (now (text .entry))) low high (here (now (text .entry)) at)) ⌝ }
 {

@@ -35,7 +35,7 @@ fn is_blank(b: u8) -> bool
 }
 
 // The first offset from `at` on that holds neither a space nor a line feed, or the text's end.
-pub fn skip_blanks(text: &[u8], mut at: usize) -> usize
+pub(crate) fn skip_blanks(text: &[u8], mut at: usize) -> usize
     requires { ⌜ at ≤ length (now text) ⌝ }
     ensures within { λ r. ⌜ r ≤ length (now (text .entry)) ⌝ }
     ensures onward { λ r. ⌜ at ≤ r ⌝ }
@@ -49,7 +49,7 @@ pub fn skip_blanks(text: &[u8], mut at: usize) -> usize
 }
 
 // The end of the word at whose first byte `at` stands.
-pub fn word_end(text: &[u8], mut at: usize) -> usize
+pub(crate) fn word_end(text: &[u8], mut at: usize) -> usize
     requires { ⌜ at ≤ length (now text) ⌝ }
     ensures within { λ r. ⌜ r ≤ length (now (text .entry)) ⌝ }
     ensures end { λ r. ⌜ r ≡ at + leading letter (drop at (now (text .entry))) ⌝ }
@@ -61,7 +61,7 @@ pub fn word_end(text: &[u8], mut at: usize) -> usize
 }
 
 // The line's next word.
-pub fn next_word(text: &[u8], at: usize) -> Result<Word, TextFault>
+pub(crate) fn next_word(text: &[u8], at: usize) -> Result<Word, TextFault>
     requires { ⌜ at ≤ length (now text) ⌝ }
     ensures { λ r. ⌜ WordRead (now (text .entry)) r (word-due (length (now (text .entry))) (here (now (text .entry)) at)) ⌝ }
 {
@@ -76,7 +76,7 @@ pub fn next_word(text: &[u8], at: usize) -> Result<Word, TextFault>
 }
 
 // The offset after the line's end, where no word is left in the line.
-pub fn next_line(text: &[u8], at: usize) -> Result<usize, TextFault>
+pub(crate) fn next_line(text: &[u8], at: usize) -> Result<usize, TextFault>
     requires { ⌜ at ≤ length (now text) ⌝ }
     ensures { λ r. ⌜ EndRead (now (text .entry)) r (line-end (length (now (text .entry))) (here (now (text .entry)) at)) ⌝ }
 {

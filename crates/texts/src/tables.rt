@@ -13,7 +13,7 @@ use routing::cells::Place;
 use routing::cells::Road;
 
 // A line for each place, the depot's first; the answer is the offset after them.
-pub fn read_places(text: &[u8], mut at: usize, cells: &mut [Place]) -> Result<usize, TextFault>
+pub(crate) fn read_places(text: &[u8], mut at: usize, cells: &mut [Place]) -> Result<usize, TextFault>
     requires { ⌜ at ≤ length (now text) ⌝ }
     ensures { λ r. ⌜ PlacesRead (now (text .entry)) r (now (cells .exit)) (places-due (length (now (text .entry))) (length (now (cells .entry))) (here (now (text .entry)) at)) ⌝ }
 {
@@ -44,7 +44,7 @@ fn read_row(
 }
 
 // The arcs from each place in turn; the answer is the offset after their lines.
-pub fn read_rows(
+pub(crate) fn read_rows(
     text: &[u8],
     mut at: usize,
     side: usize,

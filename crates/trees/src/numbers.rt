@@ -5,7 +5,7 @@ ghost use lib.ListN.{length};
 ghost use Rattle.trees.specs.Numbers.{short-at, word-at};
 
 // Two bytes.
-pub fn short_at(bytes: &[u8], at: usize) -> usize
+pub(crate) fn short_at(bytes: &[u8], at: usize) -> usize
     requires { ⌜ at + 2 ≤ length (now bytes) ⌝ }
     ensures value { λ r. ⌜ r ≡ short-at (now (bytes .entry)) at ⌝ }
     ensures bound { λ r. ⌜ r < 2 ^ 16 ⌝ }
@@ -14,7 +14,7 @@ pub fn short_at(bytes: &[u8], at: usize) -> usize
 }
 
 // Four bytes.
-pub fn word_at(bytes: &[u8], at: usize) -> usize
+pub(crate) fn word_at(bytes: &[u8], at: usize) -> usize
     requires { ⌜ at + 4 ≤ length (now bytes) ⌝ }
     ensures value { λ r. ⌜ r ≡ word-at (now (bytes .entry)) at ⌝ }
     ensures bound { λ r. ⌜ r < 2 ^ 32 ⌝ }

@@ -22,7 +22,7 @@ fn pair_end(bytes: &[u8], k: usize, from: usize, last: bool) -> Result<usize, Tr
 }
 
 // Each record starts where the one before ended, and the last ends the file.
-pub fn judge_pairs(bytes: &[u8], count: usize) -> Result<(), TreeFault>
+pub(crate) fn judge_pairs(bytes: &[u8], count: usize) -> Result<(), TreeFault>
     requires { ⌜ count ≤ 2000 ⌝ }
     ensures { λ r. ⌜ r ≡ pairs-answer (now (bytes .entry)) 0 (8 + 8 * count) count ⌝ }
 {
