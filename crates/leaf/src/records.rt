@@ -63,7 +63,11 @@ fn corner_in<M: Measure, const ROOM: usize>(
 }
 
 // The corner whose words stand from an offset on: most take few words, and the room is cleared for each.
-pub(crate) fn corner_at<M: Measure>(measure: &M, bytes: &[u8], at: usize) -> Result<M::State, LeafFault>
+pub(crate) fn corner_at<M: Measure>(
+    measure: &M,
+    bytes: &[u8],
+    at: usize,
+) -> Result<M::State, LeafFault>
     requires { ⌜ at + 8 * meaning (now measure) .words ≤ length (now bytes) ⌝ }
     ensures { λ r. ⌜ r ≡ read-corner (meaning (now (measure .entry)) .read (words (now (bytes .entry)) at (meaning (now (measure .entry)) .words))) at ⌝ }
 {

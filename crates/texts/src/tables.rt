@@ -13,7 +13,11 @@ use routing::cells::Place;
 use routing::cells::Road;
 
 // A line for each place, the depot's first; the answer is the offset after them.
-pub(crate) fn read_places(text: &[u8], mut at: usize, cells: &mut [Place]) -> Result<usize, TextFault>
+pub(crate) fn read_places(
+    text: &[u8],
+    mut at: usize,
+    cells: &mut [Place],
+) -> Result<usize, TextFault>
     requires { ⌜ at ≤ length (now text) ⌝ }
     ensures { λ r. ⌜ PlacesRead (now (text .entry)) r (now (cells .exit)) (places-due (length (now (text .entry))) (length (now (cells .entry))) (here (now (text .entry)) at)) ⌝ }
 {
