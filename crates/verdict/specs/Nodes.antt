@@ -15,6 +15,7 @@ use Rattle.check.specs.Calls.{State, Attempt, Request, forking, closing, attemp
 use Rattle.trees.specs.declared.faults.TreeFault.the-variants.{Pair}
 use Rattle.trees.specs.Tree.{record-answer}
 use Rattle.verdict.specs.declared.faults.JudgeFault.{JudgeFault}
+use Rattle.verdict.specs.declared.faults.NodeFault.{NodeFault}
 use Rattle.verdict.specs.declared.faults.JudgeFault.the-variants.{TreeRefused, AtNode}
 
 -- the letter L is a leaf's; a record of any other letter, or none, is taken as a fork
@@ -46,3 +47,10 @@ Reached s (Ok u) (Ok t) = s ≡ t
 Reached s (Ok u) (Err g) = ⊥
 Reached s (Err f) (Ok t) = ⊥
 Reached s (Err f) (Err g) = f ≡ g
+
+-- a record taken, or its fault
+abbrev pub Taken : ℕ → ℕ → State → Result (Unit {0}) NodeFault → Attempt Grant → Type 0
+Taken node offset s (Ok u) (Ok a) = s ≡ a .0
+Taken node offset s (Ok u) (Err f) = ⊥
+Taken node offset s (Err n) (Ok a) = ⊥
+Taken node offset s (Err n) (Err f) = n ≡ record { node = node; offset = offset; fault = f }

@@ -2,9 +2,10 @@
 ghost use mathlib.Core.Path.{_≡_};
 ghost use Prim.Native.Nat.{_+_, _≤_, _<_};
 ghost use Rattle.trees.specs.Tree.{record-answer};
+ghost use Rattle.check.specs.Calls.{attempt};
 ghost use Rattle.check.specs.Logs.{request};
 ghost use Rattle.check.specs.States.{network-of, state-of};
-ghost use Rattle.verdict.specs.Nodes.{record-request, node-answer, node-taken, walk, Reached};
+ghost use Rattle.verdict.specs.Nodes.{record-request, node-taken, walk, Taken, Reached};
 use crate::faults::JudgeFault;
 use crate::faults::NodeFault;
 use crate::faults::NodeJudgeFault;
@@ -25,7 +26,28 @@ fn record_call(bytes: &[u8]) -> Call<'_>
     }
 }
 
-// One record, found at an offset.
+// A record as a call, its fault with the node and the offset.
+fn take_record<N: Network, M: Measure>(
+    check: &mut Check<N>,
+    measure: &M,
+    node: usize,
+    offset: usize,
+    bytes: &[u8],
+) -> Result<(), NodeFault>
+    ensures network { λ r. ⌜ network-of (now (check .exit)) ≡ network-of (now (check .entry)) ⌝ }
+    ensures state { λ r. ⌜ Taken node offset (state-of (now (check .exit))) r (attempt (M·Measure .meaning (now (measure .entry))) (N·Network .meaning (network-of (now (check .entry)))) (state-of (now (check .entry))) (record-request (now (bytes .entry)))) ⌝ }
+{
+    match check.take(measure, record_call(bytes)) {
+        Ok(_) => Ok(()),
+        Err(fault) => Err(NodeFault {
+            node,
+            offset,
+            fault,
+        }),
+    }
+}
+
+// The record of a node, found by its pair.
 fn take_node<N: Network, M: Measure>(
     check: &mut Check<N>,
     measure: &M,
@@ -39,14 +61,8 @@ fn take_node<N: Network, M: Measure>(
     let Some((offset, bytes)) = record_at(tree, node) else {
         return Err(JudgeFault::TreeRefused(TreeFault::Pair { at: 8 + 8 * node }));
     };
-    match check.take(measure, record_call(bytes)) {
-        Ok(_) => Ok(()),
-        Err(fault) => Err(JudgeFault::AtNode(NodeFault {
-            node,
-            offset,
-            fault,
-        })),
-    }
+    take_record(check, measure, node, offset, bytes)?;
+    Ok(())
 }
 
 // So many records; the first that is denied ends it.
