@@ -61,7 +61,7 @@ impl Decisions {
         self.len += 1;
     }
 
-    pub fn last(&self) -> Option<Decision>
+    pub(crate) fn last(&self) -> Option<Decision>
         ensures { λ r. ⌜ r ≡ last-of (kept (now (self .entry))) ⌝ }
     {
         if self.len == 0 {
@@ -71,7 +71,7 @@ impl Decisions {
     }
 
     // Drops the last decision, if there is one.
-    pub fn pop(&mut self)
+    pub(crate) fn pop(&mut self)
         ensures { λ _. ⌜ kept (now (self .exit)) ≡ all-but-last (kept (now (self .entry))) ⌝ }
     {
         if self.len > 0 {
@@ -80,7 +80,7 @@ impl Decisions {
     }
 
     // The last decision, if there is one, goes over to its second side.
-    pub fn turn_last(&mut self)
+    pub(crate) fn turn_last(&mut self)
         ensures { λ _. ⌜ kept (now (self .exit)) ≡ turned-last (kept (now (self .entry))) ⌝ }
     {
         if self.len > 0 {
@@ -90,7 +90,7 @@ impl Decisions {
     }
 
     // Whether there is a last decision, and on its second side.
-    pub fn ends_second(&self) -> bool
+    pub(crate) fn ends_second(&self) -> bool
         ensures { λ r. ⌜ r ≡ ends-second (kept (now (self .entry))) ⌝ }
     {
         match self.last() {
@@ -100,7 +100,7 @@ impl Decisions {
     }
 
     // Drops decisions from the end while they are on their second side.
-    pub fn drop_second(&mut self)
+    pub(crate) fn drop_second(&mut self)
         ensures { λ _. ⌜ kept (now (self .exit)) ≡ trimmed (kept (now (self .entry))) ⌝ }
     {
         while self.ends_second() {
@@ -110,7 +110,7 @@ impl Decisions {
 
     // Goes on to the next branch: the last decision on its first side is turned, and those after it
     // are dropped. False where none is on its first side, and then none is left.
-    pub fn back_up(&mut self) -> bool
+    pub(crate) fn back_up(&mut self) -> bool
         ensures answer { λ r. ⌜ r ≡ ltb 0 (length (trimmed (kept (now (self .entry))))) ⌝ }
         ensures list { λ _. ⌜ kept (now (self .exit)) ≡ backed-up (kept (now (self .entry))) ⌝ }
     {
@@ -120,7 +120,7 @@ impl Decisions {
     }
 
     // Whether some decision removes the arc from i to j.
-    pub fn removes(&self, i: u8, j: u8) -> bool
+    pub(crate) fn removes(&self, i: u8, j: u8) -> bool
         ensures { λ r. ⌜ r ≡ removed (kept (now (self .entry))) i j ⌝ }
     {
         for decision in self.as_slice() {
