@@ -62,7 +62,7 @@ fn take_tree<N: Network>(
 
 // The verdict on a listing and a tree over any network. Where it is proved at a cost, some plan of the network costs
 // exactly that, and none costs less.
-pub fn judge_tree<N: Network + Drop>(
+pub(crate) fn judge_tree<N: Network + Drop>(
     network: N,
     listing: &[u8],
     tree: &[u8],
