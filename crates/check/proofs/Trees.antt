@@ -29,7 +29,7 @@ use Rattle.check.specs.declared.calls.Grant.TheVariants.{Presented, Forked, Clos
 use Rattle.check.specs.declared.calls.Standing.TheVariants.{Proved}
 use Rattle.check.specs.Calls.{State, opening, Attempt, no_dearer, holding, hold, present, fork_arc, no_arc, pushed, push, branch, fork_on, fork, next_branch, leaf_closed, close_for, close, standing, standing_for, Request, presenting, forking, closing, asking, granted, attempt, after, answer_of}
 use Rattle.check.proofs.Soundness.{after_granted}
-use Rattle.check.specs.Promise.{Tree, leaf, fork as forkTree, tree_calls, depth, FullTree, Line, Denied, Granted, Idle, Makes, made, idle, call, Says_proved}
+use Rattle.check.specs.Promise.{Tree, leaf, fork as forkTree, tree_calls, depth, FullTree, Line, Denied, Granted, Idle, Makes, made, idle, call, SaysProved}
 
 denied_stays : (s : State) (t : Attempt Grant) (a : Result Grant CheckFault) → a ≡ answer_of t → Denied a → after s t ≡ s
 denied_stays s (Ok x) a e d = absurd (subst Denied e d)
@@ -155,7 +155,7 @@ module _ {S : Type 0} (μ : Measuring S) (m : Meaning) where
       stays_done (closing bytes) = refl
       stays_done asking = refl
 
-      says_proved : (rest : List Line) → Follows done rest → All (Says_proved z) rest
+      says_proved : (rest : List Line) → Follows done rest → All (SaysProved z) rest
       says_proved [] f = tt
       says_proved (x ∷ rest) f =
           (λ ask. f.0 ∙ ap (λ r. answer_of (attempt μ m done r)) ask, says_proved rest (subst (λ t. Follows t rest) (stays_done x.0) f.1))
@@ -165,7 +165,7 @@ module _ {S : Type 0} (μ : Measuring S) (m : Meaning) (lawful : Limits m) (boun
   presents : (routes : List (List ℕ)) → Plan m routes → attempt μ m opening (presenting (written routes)) ≡ Ok (at μ m [] (plan_cost m routes), Presented (price_of m routes))
   presents routes plan = ap (λ r. granted (λ p. Presented p) (hold opening r)) (plan_is_priced m lawful (written routes) routes refl plan)
 
-  pub never_withheld : (log : List Line) → Follows μ m opening log → (routes : List (List ℕ)) (tree : Tree) (got : List (Result Grant CheckFault)) (rest : List Line) → Plan m routes → FullTree μ m (plan_cost m routes) tree → depth tree ≤ 64 → Makes log (presenting (written routes) ∷ tree_calls tree) got rest → All Granted got × All (Says_proved (plan_cost m routes)) rest
+  pub never_withheld : (log : List Line) → Follows μ m opening log → (routes : List (List ℕ)) (tree : Tree) (got : List (Result Grant CheckFault)) (rest : List Line) → Plan m routes → FullTree μ m (plan_cost m routes) tree → depth tree ≤ 64 → Makes log (presenting (written routes) ∷ tree_calls tree) got rest → All Granted got × All (SaysProved (plan_cost m routes)) rest
   never_withheld log f routes tree got rest plan full deep makes =
       let z = plan_cost m routes in
       let w = goes μ m opening (Presented (price_of m routes)) (at μ m [] z) (presents routes plan) makes f in

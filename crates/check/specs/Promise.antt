@@ -71,8 +71,8 @@ lines [] given = []
 lines (r ∷ calls) [] = []
 lines (r ∷ calls) (a ∷ given) = (r, a) ∷ lines calls given
 
-abbrev pub Says_proved : ℕ → Line → Type 0
-Says_proved c line = line.0 ≡ asking → line.1 ≡ Ok (Stands (Proved c))
+abbrev pub SaysProved : ℕ → Line → Type 0
+SaysProved c line = line.0 ≡ asking → line.1 ≡ Ok (Stands (Proved c))
 
 pub record Promise {S : Type 0} (μ : Measuring S) (m : Meaning) (calls : List Request) (given : List (Result Grant CheckFault)) : Type 0 where
   -- each answer is the one that the rules' check gives, fed with the same calls alone
@@ -80,4 +80,4 @@ pub record Promise {S : Type 0} (μ : Measuring S) (m : Meaning) (calls : List R
   -- proved at a cost: some plan costs exactly that, and none costs less
   pub true_word : All (λ a. (c : ℕ) → a ≡ Ok (Stands (Proved c)) → Cheapest m c) given
   -- a plan presented, and then the calls of a full tree for its cost: all are granted, and every ask after them says proved
-  pub never_withheld : (routes : List (List ℕ)) (tree : Tree) (got : List (Result Grant CheckFault)) (rest : List Line) → Plan m routes → FullTree μ m (plan_cost m routes) tree → depth tree ≤ 64 → Makes (lines calls given) (presenting (written routes) ∷ tree_calls tree) got rest → All Granted got × All (Says_proved (plan_cost m routes)) rest
+  pub never_withheld : (routes : List (List ℕ)) (tree : Tree) (got : List (Result Grant CheckFault)) (rest : List Line) → Plan m routes → FullTree μ m (plan_cost m routes) tree → depth tree ≤ 64 → Makes (lines calls given) (presenting (written routes) ∷ tree_calls tree) got rest → All Granted got × All (SaysProved (plan_cost m routes)) rest

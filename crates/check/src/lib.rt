@@ -1,4 +1,6 @@
 // The check of a branch-and-price tree over any network.
+#![tactic(auto)]
+
 pub mod calls;
 pub mod checks;
 pub mod closing;

@@ -8,7 +8,7 @@ use Rattle.routing.specs.Routes.OnTime.{home, stop}
 use Rattle.decisions.specs.declared.decision.Decision.{Decision}
 use Rattle.decisions.specs.Decisions.{removes, under, decided}
 use Rattle.decisions.specs.Lawful.{left}
-use Rattle.decisions.specs.Parts.{Part, Plan-below, Plans_below}
+use Rattle.decisions.specs.Parts.{Part, PlanBelow, PlansBelow}
 
 module _ (n m : Meaning) (part : Part n m) where
   drive_below : {i j : ℕ} → Drive n i j → Drive m i j
@@ -64,7 +64,7 @@ module _ (n m : Meaning) (part : Part n m) where
   plan_cost_same [] all = refl
   plan_cost_same (route ∷ routes) all = ap₂ ◌+◌ (on_time_cost all.0.schedule.on_time) (plan_cost_same routes all.1)
 
-  pub plan_part : Plans_below n m
+  pub plan_part : PlansBelow n m
   plan_part routes p = record {
     plan = record {
       least = omega (arith, p.least, ap (λ f. f.0) part.fleet);
@@ -101,10 +101,10 @@ pub part_decided : (m : Meaning) (ds : List Decision) → Part (decided m ds) m
 part_decided m [] = part_whole m
 part_decided m (d ∷ ds) = part_part (decided (under d m) ds) (under d m) m (part_decided (under d m) ds) (part_under m d)
 
-pub plans_below_under : (m : Meaning) (d : Decision) → Plans_below (under d m) m
+pub plans_below_under : (m : Meaning) (d : Decision) → PlansBelow (under d m) m
 plans_below_under m d = plan_part (under d m) m (part_under m d)
 
-pub plans_below : (m : Meaning) (ds : List Decision) → Plans_below (decided m ds) m
+pub plans_below : (m : Meaning) (ds : List Decision) → PlansBelow (decided m ds) m
 plans_below m ds = plan_part (decided m ds) m (part_decided m ds)
 
 pub plan_below_under : (m : Meaning) (d : Decision) (routes : List (List ℕ)) → Plan (under d m) routes → Plan m routes

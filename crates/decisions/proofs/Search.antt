@@ -8,7 +8,7 @@ use Rattle.decisions.specs.declared.decision.Side.{Side}
 use Rattle.decisions.specs.declared.decision.Side.TheVariants.{First, Second}
 use Rattle.decisions.specs.Decisions.{forbid, force, turned, under, decided}
 use Rattle.decisions.specs.Branches.{turned_last, unless_second, trimmed, backed_up}
-use Rattle.decisions.specs.Forks.{To_come, Ahead, Open, Stays_open, Goes_on}
+use Rattle.decisions.specs.Forks.{ToCome, Ahead, Open, StaysOpen, GoesOn}
 use Rattle.decisions.proofs.Parts.{plan_below, plan_below_under}
 use Rattle.decisions.proofs.Forks.{branch_splits}
 
@@ -17,7 +17,7 @@ when_so true P e p = p
 when_so false P e p = absurd (false≢true e)
 
 module _ (routes : List (List ℕ)) where
-  to_come_plan : (s : Side) (d : Decision) (m : Meaning) → To_come s d m routes → Plan (under (turned d) m) routes
+  to_come_plan : (s : Side) (d : Decision) (m : Meaning) → ToCome s d m routes → Plan (under (turned d) m) routes
   to_come_plan First d m p = p
   to_come_plan Second d m p = absurd p
 
@@ -66,8 +66,8 @@ module _ (routes : List (List ℕ)) where
   when_some m [] a = a
   when_some m (d ∷ ds) a = when_so (ltb 0 (length (d ∷ ds))) (Open m (turned_last (d ∷ ds)) routes) (lt-ltb 0 (length (d ∷ ds)) (omega arith)) (turned_open m (d ∷ ds) a)
 
-pub fork_open : (m : Meaning) (ds : List Decision) (i j : ℕ) → Stays_open m ds (ds ++ (forbid i j ∷ []))
+pub fork_open : (m : Meaning) (ds : List Decision) (i j : ℕ) → StaysOpen m ds (ds ++ (forbid i j ∷ []))
 fork_open m ds i j routes = open_fork routes m ds i j
 
-pub back_up_goes_on : (m : Meaning) (ds : List Decision) → Goes_on m ds (ltb 0 (length (trimmed ds))) (backed_up ds)
+pub back_up_goes_on : (m : Meaning) (ds : List Decision) → GoesOn m ds (ltb 0 (length (trimmed ds))) (backed_up ds)
 back_up_goes_on m ds routes a = when_some routes m (trimmed ds) (trimmed_ahead routes m ds a)

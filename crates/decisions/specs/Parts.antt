@@ -11,9 +11,9 @@ pub record Part (n m : Meaning) : Type 0 where
   pub arcs : (i j : ℕ) (a : ℕ × ℕ) → n.arc i j ≡ Some a → m.arc i j ≡ Some a
 
 -- each plan of the one is a plan of the other, at the same cost
-pub record Plan-below (n m : Meaning) (routes : List (List ℕ)) : Type 0 where
+pub record PlanBelow (n m : Meaning) (routes : List (List ℕ)) : Type 0 where
   pub plan : Plan m routes
   pub cost : plan_cost n routes ≡ plan_cost m routes
 
-abbrev pub Plans_below : Meaning → Meaning → Type 0
-Plans_below n m = (routes : List (List ℕ)) → Plan n routes → Plan-below n m routes
+abbrev pub PlansBelow : Meaning → Meaning → Type 0
+PlansBelow n m = (routes : List (List ℕ)) → Plan n routes → PlanBelow n m routes

@@ -2,9 +2,9 @@
 ghost use Rattle.std.specs.Prelude.{◌≡◌, [], ◌∷◌, ◌++◌, length, if◌then◌else◌, nat_lt};
 ghost use Rattle.decisions.specs.Decisions.{decided, forbid, under};
 ghost use Rattle.decisions.specs.Branches.{kept, trimmed, backed_up};
-ghost use Rattle.decisions.specs.Forks.{Stays_open, Goes_on};
+ghost use Rattle.decisions.specs.Forks.{StaysOpen, GoesOn};
 ghost use Rattle.decisions.specs.Lawful.{decided_limits};
-ghost use Rattle.decisions.specs.Parts.{Part, Plans_below};
+ghost use Rattle.decisions.specs.Parts.{Part, PlansBelow};
 
 use crate::decision::Decision;
 use crate::decisions::Decisions;
@@ -71,7 +71,7 @@ impl<N: Network> DecisionLayer<N> {
     pub fn below(&self) -> &N
         ensures value { result.now ≡ self.now.below }
         ensures part { Part (decided (N.Network.meaning self.now.below) (kept self.now.decisions)) (N.Network.meaning result.now) }
-        ensures plans { Plans_below (decided (N.Network.meaning self.now.below) (kept self.now.decisions)) (N.Network.meaning result.now) }
+        ensures plans { PlansBelow (decided (N.Network.meaning self.now.below) (kept self.now.decisions)) (N.Network.meaning result.now) }
     {
         &self.below
     }
@@ -83,7 +83,7 @@ impl<N: Network> DecisionLayer<N> {
         ensures list { kept self.new.decisions ≡ (if result then kept self.old.decisions ++ (forbid from to ∷ []) else kept self.old.decisions) }
         ensures stays { self.new.below ≡ self.old.below }
         ensures network { decided (N.Network.meaning self.new.below) (kept self.new.decisions) ≡ (if result then under (forbid from to) (decided (N.Network.meaning self.old.below) (kept self.old.decisions)) else decided (N.Network.meaning self.old.below) (kept self.old.decisions)) }
-        ensures plans { Stays_open (N.Network.meaning self.old.below) (kept self.old.decisions) (kept self.new.decisions) }
+        ensures plans { StaysOpen (N.Network.meaning self.old.below) (kept self.old.decisions) (kept self.new.decisions) }
     {
         let decision = Decision::forbid(from, to);
         if !self.decisions.push(decision) {
@@ -98,7 +98,7 @@ impl<N: Network> DecisionLayer<N> {
         ensures answer { result ≡ nat_lt 0 (length (trimmed (kept self.old.decisions))) }
         ensures list { kept self.new.decisions ≡ backed_up (kept self.old.decisions) }
         ensures stays { self.new.below ≡ self.old.below }
-        ensures plans { Goes_on (N.Network.meaning self.old.below) (kept self.old.decisions) result (kept self.new.decisions) }
+        ensures plans { GoesOn (N.Network.meaning self.old.below) (kept self.old.decisions) result (kept self.new.decisions) }
     {
         let more = self.decisions.back_up();
         self.removed = RemovedArcs::of(self.decisions.as_slice());

@@ -1,4 +1,6 @@
 // Branching decisions on arcs, and the network that keeps them over another.
+#![tactic(auto)]
+
 pub mod decision;
 pub mod decisions;
 pub mod keeping;

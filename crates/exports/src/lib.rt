@@ -1,4 +1,6 @@
 // The judge for programs in other languages to link.
+#![tactic(auto)]
+
 ghost use Rattle.exports.specs.Exported.{Exported};
 
 use std::alloc::Global;

@@ -1,4 +1,6 @@
 // From the bytes of the files to the line that is printed.
+#![tactic(auto)]
+
 pub mod faults;
 pub mod judging;
 pub mod lines;

@@ -1,4 +1,6 @@
 // Reads case.txt, plan.txt and tree.bin from the current folder, and prints one line.
+#![tactic(auto)]
+
 use files::reading::contents;
 use std::io;
 use verdict::judging::judge;

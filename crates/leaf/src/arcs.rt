@@ -48,8 +48,8 @@ fn keeps_rule<M: Measure>(
     to: u8,
     drive: Option<(u32, Move)>,
 ) -> bool
-    requires { (Ready (meaning measure.now) leaf) × ((Cheap drive) × (to ≤ length leaf.duals.now)) }
-    ensures { result ≡ drive_ok (meaning measure.now) (leaf_of (meaning measure.now) leaf.entry) value state to drive }
+    requires { (Ready (M.Measure.meaning measure.now) leaf) × ((Cheap drive) × (to ≤ length leaf.duals.now)) }
+    ensures { result ≡ drive_ok (M.Measure.meaning measure.now) (leaf_of (M.Measure.meaning measure.now) leaf.entry) value state to drive }
 {
     let Some((cost, by)) = drive else {
         return true;
@@ -76,8 +76,8 @@ pub(crate) fn first_broken<M: Measure>(
     row: &[Option<(u32, Move)>],
     first: u8,
 ) -> Option<u8>
-    requires { (Ready (meaning measure.now) leaf) × ((All Cheap row.now) × (length row.now ≡ length leaf.duals.now + 1)) }
-    ensures { result ≡ first_refused (λ j. drive_ok (meaning measure.now) (leaf_of (meaning measure.now) leaf.entry) value state j (slice_index_or row.now j None)) first (length leaf.entry.duals.now + 1 - first) }
+    requires { (Ready (M.Measure.meaning measure.now) leaf) × ((All Cheap row.now) × (length row.now ≡ length leaf.duals.now + 1)) }
+    ensures { result ≡ first_refused (λ j. drive_ok (M.Measure.meaning measure.now) (leaf_of (M.Measure.meaning measure.now) leaf.entry) value state j (slice_index_or row.now j None)) first (length leaf.entry.duals.now + 1 - first) }
 {
     for to in first..leaf.duals.len() as u8 + 1 {
         if !keeps_rule(measure, leaf, value, state, to, row[to as usize]) {

@@ -8,7 +8,7 @@ use routing::networks::Network;
 
 // The cost and the move of an arc, where there is one.
 fn drive_to<N: Network>(network: &N, from: u8, to: u8) -> Option<(u32, Move)>
-    ensures { result ≡ drive (meaning network.now) from to }
+    ensures { result ≡ drive (N.Network.meaning network.now) from to }
 {
     let (cost, travel) = network.arc(from, to)?;
     let left = network.place(from)?;
@@ -27,8 +27,8 @@ fn drive_to<N: Network>(network: &N, from: u8, to: u8) -> Option<(u32, Move)>
 
 // The arcs from a place to every place, home first.
 pub(crate) fn drives_from<N: Network>(network: &N, from: u8, row: &mut [Option<(u32, Move)>])
-    requires { length row.old ≡ (meaning network.now).customers + 1 }
-    ensures { row.new ≡ drives (meaning network.now) from }
+    requires { length row.old ≡ (N.Network.meaning network.now).customers + 1 }
+    ensures { row.new ≡ drives (N.Network.meaning network.now) from }
 {
     for (to, drive) in row.iter_mut().enumerate() {
         *drive = drive_to(network, from, to as u8);
@@ -37,8 +37,8 @@ pub(crate) fn drives_from<N: Network>(network: &N, from: u8, row: &mut [Option<(
 
 // Turns a place's arcs to another's, which are asked for only where the place changes.
 pub(crate) fn turn_to<N: Network>(network: &N, from: u8, place: u8, row: &mut [Option<(u32, Move)>])
-    requires { (row.old ≡ drives (meaning network.now) from) × (length row.old ≡ (meaning network.now).customers + 1) }
-    ensures { row.new ≡ drives (meaning network.now) place }
+    requires { (row.old ≡ drives (N.Network.meaning network.now) from) × (length row.old ≡ (N.Network.meaning network.now).customers + 1) }
+    ensures { row.new ≡ drives (N.Network.meaning network.now) place }
 {
     if place != from {
         drives_from(network, place, row);

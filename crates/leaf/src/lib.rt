@@ -1,4 +1,6 @@
 // The leaf of a branch-and-price tree: its record, its rule, and the bound that it gives.
+#![tactic(auto)]
+
 pub mod arcs;
 pub mod broken;
 pub mod check;

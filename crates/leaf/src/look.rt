@@ -12,8 +12,8 @@ use measures::measure::Measure;
 
 // The state of a stored entry's corner.
 pub(crate) fn corner_of<M: Measure>(measure: &M, bytes: &[u8], entry: Potential<usize>) -> M::State
-    requires { (Inside (meaning measure.now).words bytes.now entry) × (Readable (meaning measure.now) bytes.now entry) }
-    ensures { result ≡ (decoded (meaning measure.now) bytes.now entry).corner }
+    requires { (Inside (M.Measure.meaning measure.now).words bytes.now entry) × (Readable (M.Measure.meaning measure.now) bytes.now entry) }
+    ensures { result ≡ (decoded (M.Measure.meaning measure.now) bytes.now entry).corner }
 {
     match corner_at(measure, bytes, entry.corner) {
         Ok(corner) => corner,
@@ -29,8 +29,8 @@ pub(crate) fn best_value<M: Measure>(
     place: u8,
     state: M::State,
 ) -> Option<i64>
-    requires { (Ready (meaning measure.now) leaf) × ((1 ≤ place) × (place ≤ 60)) }
-    ensures { result ≡ best (meaning measure.now) (leaf_of (meaning measure.now) leaf.entry).entries place state }
+    requires { (Ready (M.Measure.meaning measure.now) leaf) × ((1 ≤ place) × (place ≤ 60)) }
+    ensures { result ≡ best (M.Measure.meaning measure.now) (leaf_of (M.Measure.meaning measure.now) leaf.entry).entries place state }
 {
     let layout = Layout {
         at: leaf.layout.at,

@@ -44,8 +44,8 @@ fn corner_in<M: Measure, const ROOM: usize>(
     bytes: &[u8],
     at: usize,
 ) -> Result<M::State, LeafFault>
-    requires { (at + 8 * (meaning measure.now).words ≤ length bytes.now) × (((meaning measure.now).words ≤ ROOM) × (ROOM ≤ 100)) }
-    ensures { result ≡ read_corner ((meaning measure.now).read (words bytes.now at (meaning measure.now).words)) at }
+    requires { (at + 8 * (M.Measure.meaning measure.now).words ≤ length bytes.now) × (((M.Measure.meaning measure.now).words ≤ ROOM) × (ROOM ≤ 100)) }
+    ensures { result ≡ read_corner ((M.Measure.meaning measure.now).read (words bytes.now at (M.Measure.meaning measure.now).words)) at }
 {
     let mut room = [0; ROOM];
     let room = &mut room[..];
@@ -63,8 +63,8 @@ pub(crate) fn corner_at<M: Measure>(
     bytes: &[u8],
     at: usize,
 ) -> Result<M::State, LeafFault>
-    requires { at + 8 * (meaning measure.now).words ≤ length bytes.now }
-    ensures { result ≡ read_corner ((meaning measure.now).read (words bytes.now at (meaning measure.now).words)) at }
+    requires { at + 8 * (M.Measure.meaning measure.now).words ≤ length bytes.now }
+    ensures { result ≡ read_corner ((M.Measure.meaning measure.now).read (words bytes.now at (M.Measure.meaning measure.now).words)) at }
 {
     if measure.words() <= 4 {
         corner_in::<M, 4>(measure, bytes, at)
@@ -80,8 +80,8 @@ fn entry_at<M: Measure>(
     bytes: &[u8],
     at: usize,
 ) -> Result<Potential<M::State>, LeafFault>
-    requires { at + entry_size (meaning measure.now).words ≤ length bytes.now }
-    ensures { result ≡ read_entry (meaning measure.now) customers bytes.now at }
+    requires { at + entry_size (M.Measure.meaning measure.now).words ≤ length bytes.now }
+    ensures { result ≡ read_entry (M.Measure.meaning measure.now) customers bytes.now at }
 {
     Ok(Potential {
         place: place_at(bytes, at, customers)?,
@@ -98,8 +98,8 @@ pub(crate) fn check_entry_fields<M: Measure>(
     layout: Layout,
     count: usize,
 ) -> Result<(), LeafFault>
-    requires { (layout.size ≡ entry_size (meaning measure.now).words) × (layout.at + layout.size * count ≤ length bytes.now) }
-    ensures { MatchResult result (λ _. read_each (read_entry (meaning measure.now) customers bytes.now) layout.at layout.size count ≡ Ok (map (decoded (meaning measure.now) bytes.now) (picked bytes.now layout (range_with_len 0 count)))) (λ f. read_each (read_entry (meaning measure.now) customers bytes.now) layout.at layout.size count ≡ Err f) }
+    requires { (layout.size ≡ entry_size (M.Measure.meaning measure.now).words) × (layout.at + layout.size * count ≤ length bytes.now) }
+    ensures { MatchResult result (λ _. read_each (read_entry (M.Measure.meaning measure.now) customers bytes.now) layout.at layout.size count ≡ Ok (map (decoded (M.Measure.meaning measure.now) bytes.now) (picked bytes.now layout (range_with_len 0 count)))) (λ f. read_each (read_entry (M.Measure.meaning measure.now) customers bytes.now) layout.at layout.size count ≡ Err f) }
 {
     for k in 0..count {
         entry_at(measure, customers, bytes, layout.at + layout.size * k)?;

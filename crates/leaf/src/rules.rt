@@ -49,8 +49,8 @@ fn earlier<M: Measure>(
     entry: Potential<usize>,
     first: Option<Broken>,
 ) -> Option<Broken>
-    requires { (Ready (meaning measure.now) leaf) × ((All Cheap row.now) × ((length row.now ≡ length leaf.duals.now + 1) × ((Inside (meaning measure.now).words leaf.bytes.now entry) × (Readable (meaning measure.now) leaf.bytes.now entry)))) }
-    ensures { result ≡ earliest (first_refused (λ j. drive_ok (meaning measure.now) (leaf_of (meaning measure.now) leaf.entry) entry.value (decoded (meaning measure.now) leaf.entry.bytes.now entry).corner j (slice_index_or row.now j None)) 0 (length leaf.entry.duals.now + 1 - 0)) index entry.place first }
+    requires { (Ready (M.Measure.meaning measure.now) leaf) × ((All Cheap row.now) × ((length row.now ≡ length leaf.duals.now + 1) × ((Inside (M.Measure.meaning measure.now).words leaf.bytes.now entry) × (Readable (M.Measure.meaning measure.now) leaf.bytes.now entry)))) }
+    ensures { result ≡ earliest (first_refused (λ j. drive_ok (M.Measure.meaning measure.now) (leaf_of (M.Measure.meaning measure.now) leaf.entry) entry.value (decoded (M.Measure.meaning measure.now) leaf.entry.bytes.now entry).corner j (slice_index_or row.now j None)) 0 (length leaf.entry.duals.now + 1 - 0)) index entry.place first }
 {
     if precedes(first, index) {
         return first;

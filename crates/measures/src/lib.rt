@@ -1,4 +1,6 @@
 // Measures: what a leaf's corners count along a route, with the laws that make their bounds true.
+#![tactic(auto)]
+
 pub mod load;
 pub mod measure;
 pub mod moves;

@@ -59,7 +59,7 @@ fn arrive(
 // The van after the arc to its next stop, or why it cannot be driven.
 fn step<N: Network>(network: &N, van: Van, index: usize, to: u8) -> Result<Van, ListingFault>
     requires { (van.ready ≤ 120000) × ((van.load ≤ 10000) × ((van.cost ≤ 120000000) × (van.routes ≤ 120))) }
-    ensures value { result ≡ stepped (meaning network.now) van index to }
+    ensures value { result ≡ stepped (N.Network.meaning network.now) van index to }
     ensures bounds { IfOk result (λ v. (v.ready ≤ 120000) × (v.load ≤ 10000) × (v.cost ≤ van.cost + 1000000) × (v.routes ≤ van.routes + 1)) }
 {
     let from = van.at;
@@ -75,7 +75,7 @@ fn step<N: Network>(network: &N, van: Van, index: usize, to: u8) -> Result<Van, 
 // What the listing's routes cost and how many they are, or the first arc that cannot be driven.
 pub(crate) fn drive<N: Network>(network: &N, listing: &[u8]) -> Result<Priced, ListingFault>
     requires { length listing.now ≤ 120 }
-    ensures { result ≡ drive_answer (meaning network.now) listing.now }
+    ensures { result ≡ drive_answer (N.Network.meaning network.now) listing.now }
 {
     let Some(depot) = network.place(0) else {
         unreachable()

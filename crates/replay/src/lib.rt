@@ -1,4 +1,6 @@
 // A listing of routes, priced on any network.
+#![tactic(auto)]
+
 pub mod drive;
 pub mod faults;
 pub mod form;

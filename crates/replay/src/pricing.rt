@@ -23,8 +23,8 @@ fn within_fleet(fleet: (u8, u8), priced: Priced) -> Result<Priced, ListingFault>
 
 // The cost of a listing's routes and their number, or the first fault.
 pub fn price<N: Network>(network: &N, listing: &[u8]) -> Result<Priced, ListingFault>
-    ensures value { result ≡ price_answer (meaning network.now) listing.now }
-    ensures plans { Prices (meaning network.now) listing.now result }
+    ensures value { result ≡ price_answer (N.Network.meaning network.now) listing.now }
+    ensures plans { Prices (N.Network.meaning network.now) listing.now result }
 {
     let customers = network.customers();
     well_formed(customers, listing)?;

@@ -1,4 +1,6 @@
 // Networks of the vehicle routing problem with time windows.
+#![tactic(auto)]
+
 pub mod answers;
 pub mod cells;
 pub mod denials;

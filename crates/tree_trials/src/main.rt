@@ -1,4 +1,6 @@
 // Judges each case folder with its tree that index.txt names, and prints its name and line.
+#![tactic(auto)]
+
 use files::reading::contents;
 use std::fs;
 use verdict::judging::judge;

@@ -37,7 +37,7 @@ fn read_head(bytes: &[u8], customers: u8) -> Result<TreeHead, TreeFault>
     ensures value { result ≡ head_answer bytes.now customers }
     ensures counted { IfOk result (λ h. h.count ≤ 2000) }
 {
-    if bytes.len() < 8 || &bytes[0..4] != b"VRPC" {
+    if bytes.len() < 8 || &bytes[0..4] != b"VRPC".as_slice() {
         return Err(TreeFault::Mark);
     }
     let Some(kind) = kind_of(bytes[4]) else {

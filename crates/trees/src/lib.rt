@@ -1,4 +1,6 @@
 // A tree file: its head, its directory and its records.
+#![tactic(auto)]
+
 pub mod faults;
 pub mod head;
 mod numbers;

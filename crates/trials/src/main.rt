@@ -1,4 +1,6 @@
 // Judges each case folder that index.txt names, and prints its name and line.
+#![tactic(auto)]
+
 use files::judging::judge_files;
 use files::reading::contents;
 use std::fs;

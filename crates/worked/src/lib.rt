@@ -1,4 +1,6 @@
 // The worked examples of the documentation, as one statement about the rules.
+#![tactic(auto)]
+
 ghost use Rattle.std.specs.Prelude.{◌≡◌, Ok};
 ghost use Rattle.replay.specs.Answer.{price_answer};
 ghost use Rattle.worked.specs.TwoStops.{two_stops, one_route, at_cost, Worked};

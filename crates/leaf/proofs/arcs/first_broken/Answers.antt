@@ -11,12 +11,12 @@ keeps-rule-requires-in-loop-to g c =
     let below : c.loop-to.to < length c.args.row.now = omega (arith, c.requires.0.few, c.requires.1.1) in
     (c.requires.0, (All-get_or Cheap c.args.row.now c.loop-to.to None below c.requires.1.0, omega arith))
 
-pub returns-then-not-keeps-rule : goal.returns-then-not-keeps-rule
-returns-then-not-keeps-rule g c =
+pub returns-then-not-keeps_rule : goal.returns-then-not-keeps_rule
+returns-then-not-keeps_rule g c =
     let row = c.args.row.now in
     let n = length c.args.leaf.duals.now + 1 in
     let ok : ℤ → ℕ → Bool = λ v j. drive_ok (g.M.Measure.meaning c.args.measure.now) (leaf_of (g.M.Measure.meaning c.args.measure.now) c.args.leaf) v c.args.state j (get_or row j None) in
-    sym (refused_here (ok (to_z w64 (of_z w64 c.args.value))) c.loop-to.to n c.loop-to-test.true (sym c.if-not-keeps-rule.ensures))
+    sym (refused_here (ok (to_z w64 (of_z w64 c.args.value))) c.loop-to.to n c.loop-to-test.true (sym c.if-not-keeps_rule.ensures))
     ∙ c.loop-to.invariant
     ∙ ap (λ v. first_refused (ok v) c.args.first (n - c.args.first)) (to_z-of_z w64 c.args.value c.ranges.value)
 
@@ -25,7 +25,7 @@ loop-to-preserved g c =
     let row = c.args.row.now in
     let n = length c.args.leaf.duals.now + 1 in
     let ok : ℤ → ℕ → Bool = λ v j. drive_ok (g.M.Measure.meaning c.args.measure.now) (leaf_of (g.M.Measure.meaning c.args.measure.now) c.args.leaf) v c.args.state j (get_or row j None) in
-    sym (refused_on (ok (to_z w64 (of_z w64 c.args.value))) c.loop-to.to n c.loop-to-test.true (sym c.if-not-keeps-rule.ensures))
+    sym (refused_on (ok (to_z w64 (of_z w64 c.args.value))) c.loop-to.to n c.loop-to-test.true (sym c.if-not-keeps_rule.ensures))
     ∙ c.loop-to.invariant
 
 pub returns : goal.returns

@@ -30,37 +30,37 @@ scaled-cost-requires g c = (c.requires.0.small.scale, subst Cheap c.in-Some.is c
 pub returns-then-to-eq0 : goal.returns-then-to-eq0
 returns-then-to-eq0 g c =
     let μ = g.M.Measure.meaning c.args.measure.now in
-    c.keeps-home.ensures
+    c.keeps_home.ensures
     ∙ home_same c.args.value c.scaled-cost.result (c.args.leaf.scale * c.in-Some.cost) c.ranges.value (search rules) c.scaled-cost.ensures
     ∙ sym (ok_home μ (leaf_of (g.M.Measure.meaning c.args.measure.now) c.args.leaf) c.args.value c.args.state c.args.to c.args.drive c.in-Some.cost c.in-Some.by c.in-Some-step.reached c.in-Some.is (sym c.in-Some-step.ensures) c.if-to-eq0.true)
 
-pub is-within-requires : goal.is-within-requires
-is-within-requires g c =
+pub is_within-requires : goal.is_within-requires
+is_within-requires g c =
     let μ = g.M.Measure.meaning c.args.measure.now in
     let leaf = c.args.leaf in
     let cheap = subst Cheap c.in-Some.is c.requires.1.0 in
     let p = get_or leaf.duals.now (c.args.to - 1) (pos 0) in
     let fp : SFits w64 p = search rules in
-    let fh : SFits w64 c.in-Some-best-value.potential = search rules in
+    let fh : SFits w64 c.in-Some-best_value.potential = search rules in
     let fk : SFits w64 c.scaled-cost.result = search rules in (
       kept c.scaled-cost.result 1000000000 fk (small_cost c.scaled-cost.result leaf.scale c.in-Some.cost c.requires.0.small.scale cheap c.scaled-cost.ensures),
       (
         kept p 1000000000000 fp (All-get_or (λ x. nat_abs x ≤ 1000000000000) leaf.duals.now (c.args.to - 1) (pos 0) (omega (arith, c.if-to-eq0.false, c.requires.1.1)) c.requires.0.small.duals),
-        kept c.in-Some-best-value.potential 1000000000000000 fh (best_small μ c.args.to c.in-Some-step.reached (leaf_of μ leaf).entries c.in-Some-best-value.potential c.requires.0.small.entries (sym c.in-Some-best-value.ensures)),
+        kept c.in-Some-best_value.potential 1000000000000000 fh (best_small μ c.args.to c.in-Some-step.reached (leaf_of μ leaf).entries c.in-Some-best_value.potential c.requires.0.small.entries (sym c.in-Some-best_value.ensures)),
       ),
     )
 
-pub returns-in-Some-best-value : goal.returns-in-Some-best-value
-returns-in-Some-best-value g c =
+pub returns-in-Some-best_value : goal.returns-in-Some-best_value
+returns-in-Some-best_value g c =
     let μ = g.M.Measure.meaning c.args.measure.now in
     let leaf = c.args.leaf in
     let p = get_or leaf.duals.now (c.args.to - 1) (pos 0) in
     let fp : SFits w64 p = search rules in
-    let fh : SFits w64 c.in-Some-best-value.potential = search rules in
+    let fh : SFits w64 c.in-Some-best_value.potential = search rules in
     let fk : SFits w64 c.scaled-cost.result = search rules in
-    c.is-within.ensures
-    ∙ onward_same c.args.value c.scaled-cost.result p c.in-Some-best-value.potential (leaf.scale * c.in-Some.cost) c.ranges.value fk fp fh c.scaled-cost.ensures
-    ∙ sym (ok_onward μ (leaf_of (g.M.Measure.meaning c.args.measure.now) leaf) c.args.value c.args.state c.args.to c.args.drive c.in-Some.cost c.in-Some.by c.in-Some-step.reached c.in-Some.is (sym c.in-Some-step.ensures) c.if-to-eq0.false (Some c.in-Some-best-value.potential) (sym c.in-Some-best-value.ensures))
+    c.is_within.ensures
+    ∙ onward_same c.args.value c.scaled-cost.result p c.in-Some-best_value.potential (leaf.scale * c.in-Some.cost) c.ranges.value fk fp fh c.scaled-cost.ensures
+    ∙ sym (ok_onward μ (leaf_of (g.M.Measure.meaning c.args.measure.now) leaf) c.args.value c.args.state c.args.to c.args.drive c.in-Some.cost c.in-Some.by c.in-Some-step.reached c.in-Some.is (sym c.in-Some-step.ensures) c.if-to-eq0.false (Some c.in-Some-best_value.potential) (sym c.in-Some-best_value.ensures))
 
 pub returns-in-None : goal.returns-in-None
 returns-in-None g c =

@@ -6,30 +6,30 @@ use Rattle.leaf.specs.Held.{leaf_of}
 use Rattle.leaf.specs.Record.{entry_size}
 use Rattle.leaf.proofs.check.check_rule.Goals as goal
 
-pub check-entries-requires : goal.check-entries-requires
-check-entries-requires g c = (c.requires.0, c.requires.1.0)
+pub check_entries-requires : goal.check_entries-requires
+check_entries-requires g c = (c.requires.0, c.requires.1.0)
 
-pub check-depot-requires : goal.check-depot-requires
-check-depot-requires g c = (c.requires.0, c.requires.1.0)
+pub check_depot-requires : goal.check_depot-requires
+check_depot-requires g c = (c.requires.0, c.requires.1.0)
 
-pub returns-in-err-check-entries : goal.returns-in-err-check-entries
-returns-in-err-check-entries g c =
+pub returns-in_err-check_entries : goal.returns-in_err-check_entries
+returns-in_err-check_entries g c =
     let μ = g.M.Measure.meaning c.args.measure.now in
     let m = g.N.Network.meaning c.args.network.now in
     let leaf = leaf_of (g.M.Measure.meaning c.args.measure.now) c.args.leaf in
-    let p = err_from_is_err_and c.from-residual.result c.from-residual.ensures.1 in
-    let found = c.in-err-check-entries.ensures ∙ ap₂ (λ at size. entries_answer μ m leaf at size leaf.entries) c.requires.1.1 c.requires.0.size in
+    let p = err_from_is_err_and c.from_residual.result c.from_residual.ensures.1 in
+    let found = c.in_err-check_entries.ensures ∙ ap₂ (λ at size. entries_answer μ m leaf at size leaf.entries) c.requires.1.1 c.requires.0.size in
     p.1 ∙ ap Err p.2 ∙ ap (λ r. after r λ _. after (depot_answer μ m leaf (m.place 0)) λ _. bound_answer m leaf c.args.cost) found
 
-pub returns-in-err-check-depot : goal.returns-in-err-check-depot
-returns-in-err-check-depot g c =
+pub returns-in_err-check_depot : goal.returns-in_err-check_depot
+returns-in_err-check_depot g c =
     let μ = g.M.Measure.meaning c.args.measure.now in
     let m = g.N.Network.meaning c.args.network.now in
     let leaf = leaf_of (g.M.Measure.meaning c.args.measure.now) c.args.leaf in
-    let p = err_from_is_err_and c.from-residual-in-err-check-depot.result c.from-residual-in-err-check-depot.ensures.1 in
-    let passed = c.in-ok-check-entries.ensures ∙ ap₂ (λ at size. entries_answer μ m leaf at size leaf.entries) c.requires.1.1 c.requires.0.size in
+    let p = err_from_is_err_and c.from_residual-in_err-check_depot.result c.from_residual-in_err-check_depot.ensures.1 in
+    let passed = c.in_ok-check_entries.ensures ∙ ap₂ (λ at size. entries_answer μ m leaf at size leaf.entries) c.requires.1.1 c.requires.0.size in
     p.1 ∙ ap Err p.2
-    ∙ ap (λ r. after r λ _. bound_answer m leaf c.args.cost) c.in-err-check-depot.ensures
+    ∙ ap (λ r. after r λ _. bound_answer m leaf c.args.cost) c.in_err-check_depot.ensures
     ∙ ap (λ r. after r λ _. after (depot_answer μ m leaf (m.place 0)) λ _. bound_answer m leaf c.args.cost) passed
 
 pub returns : goal.returns
@@ -37,7 +37,7 @@ returns g c =
     let μ = g.M.Measure.meaning c.args.measure.now in
     let m = g.N.Network.meaning c.args.network.now in
     let leaf = leaf_of (g.M.Measure.meaning c.args.measure.now) c.args.leaf in
-    let passed = c.in-ok-check-entries.ensures ∙ ap₂ (λ at size. entries_answer μ m leaf at size leaf.entries) c.requires.1.1 c.requires.0.size in
-    c.check-bound.ensures
-    ∙ ap (λ r. after r λ _. bound_answer m leaf c.args.cost) c.in-ok-check-depot.ensures
+    let passed = c.in_ok-check_entries.ensures ∙ ap₂ (λ at size. entries_answer μ m leaf at size leaf.entries) c.requires.1.1 c.requires.0.size in
+    c.check_bound.ensures
+    ∙ ap (λ r. after r λ _. bound_answer m leaf c.args.cost) c.in_ok-check_depot.ensures
     ∙ ap (λ r. after r λ _. after (depot_answer μ m leaf (m.place 0)) λ _. bound_answer m leaf c.args.cost) passed

@@ -9,8 +9,8 @@ loop-to-preserved g c =
     let s = c.loop-to in (
       simp length-set (omega arith),
       below_more _ _
-          (λ i h. let apart : i ≢ s.to = omega arith in get_or-set_other s.row s.to i c.drive-to.result None apart ∙ s.invariant.1 i h)
-          (get_or-set_same s.row s.to c.drive-to.result None (omega arith) ∙ c.drive-to.ensures),
+          (λ i h. let apart : i ≢ s.to = omega arith in get_or-set_other s.row s.to i c.drive_to.result None apart ∙ s.invariant.1 i h)
+          (get_or-set_same s.row s.to c.drive_to.result None (omega arith) ∙ c.drive_to.ensures),
     )
 
 pub returns : goal.returns

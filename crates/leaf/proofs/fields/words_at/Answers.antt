@@ -8,8 +8,8 @@ loop-k-preserved c =
     let s = c.loop-k in (
       simp length-set (omega arith),
       below_more _ _
-          (λ i h. let apart : i ≢ s.k = omega arith in get_or-set_other s.room s.k i c.word-at.result 0 apart ∙ s.invariant.1 i h)
-          (get_or-set_same s.room s.k c.word-at.result 0 (omega arith) ∙ c.word-at.ensures),
+          (λ i h. let apart : i ≢ s.k = omega arith in get_or-set_other s.room s.k i c.word_at.result 0 apart ∙ s.invariant.1 i h)
+          (get_or-set_same s.room s.k c.word_at.result 0 (omega arith) ∙ c.word_at.ensures),
     )
 
 pub returns : goal.returns

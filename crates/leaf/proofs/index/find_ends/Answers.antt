@@ -3,8 +3,8 @@ use Rattle.leaf.specs.Held.{picked, EndsAt}
 use Rattle.leaf.proofs.Picked.{picked_long}
 use Rattle.leaf.proofs.index.find_ends.Goals as goal
 
-pub end-after-end-requires : goal.end-after-end-requires
-end-after-end-requires c = (c.requires.0, (c.requires.1.0, (c.loop-place.invariant.1, c.loop-place.invariant.2)))
+pub end_after-end-requires : goal.end_after-end-requires
+end_after-end-requires c = (c.requires.0, (c.requires.1.0, (c.loop-place.invariant.1, c.loop-place.invariant.2)))
 
 pub loop-place-init : goal.loop-place-init
 loop-place-init c = (omega arith, omega arith, λ i d lt. absurd (omega arith), λ j lt. absurd (omega arith))
@@ -12,9 +12,9 @@ loop-place-init c = (omega arith, omega arith, λ i d lt. absurd (omega arith), 
 pub loop-place-preserved : goal.loop-place-preserved
 loop-place-preserved c =
     let s = c.loop-place in
-    let r = c.end-after-end.result in
+    let r = c.end_after-end.result in
     let xs = picked c.args.bytes.now c.args.layout c.args.order.now in
-    let here = c.end-after-end.ensures in (
+    let here = c.end_after-end.ensures in (
       simp length-set (omega arith),
       omega (arith, here.within, picked_long c.args.bytes.now c.args.layout c.args.order.now),
       λ i d lt. omega (arith, here.upto i d lt),

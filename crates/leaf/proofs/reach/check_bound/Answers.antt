@@ -28,24 +28,24 @@ tested a d f x y ds fs fits left right =
     let sum : nat_abs (d +ℤ f) ≤ 61000000000000000 = omega (arith, ints) in
     ap₂ lt_z (to_z-of_z w64 a fits ∙ left) (ap (λ z. to_z w64 (of_z w64 z)) inner ∙ held (d +ℤ f) 61000000000000000 sum (omega arith) ∙ right)
 
-pub fleet-price-requires : goal.fleet-price-requires
-fleet-price-requires g c =
+pub fleet_price-requires : goal.fleet_price-requires
+fleet_price-requires g c =
     let net = c.args.network.now in (
       subst (λ z. nat_abs z ≤ 1000000000000000) (sym (held c.args.leaf.price 1000000000000000 c.requires.small.price (omega arith))) c.requires.small.price,
-      counted_few (g.N.Network.meaning net) (g.N.Network.limits net) _ c.fleet.result c.counted-vans.result c.fleet.ensures c.counted-vans.ensures,
+      counted_few (g.N.Network.meaning net) (g.N.Network.limits net) _ c.fleet.result c.counted_vans.result c.fleet.ensures c.counted_vans.ensures,
     )
 
-pub overflow-add-bound : goal.overflow-add-bound
-overflow-add-bound g c =
-    let ds = c.dual-sum.ensures.small in
-    let fs = c.fleet-price.ensures.small in
-    let inner : to_z w64 (of_z w64 c.dual-sum.result) +ℤ to_z w64 (of_z w64 c.fleet-price.result) ≡ c.dual-sum.result +ℤ c.fleet-price.result = ap₂ ◌+ℤ◌ (held c.dual-sum.result 60000000000000 ds (omega arith)) (held c.fleet-price.result 60000000000000000 fs (omega arith)) in
-    let sum : nat_abs (c.dual-sum.result +ℤ c.fleet-price.result) ≤ 61000000000000000 = omega (arith, ints, ds, fs) in
-    subst (SFits w64) (sym inner) (fits_small (c.dual-sum.result +ℤ c.fleet-price.result) 61000000000000000 sum (omega arith))
+pub overflow_add-bound : goal.overflow_add-bound
+overflow_add-bound g c =
+    let ds = c.dual_sum.ensures.small in
+    let fs = c.fleet_price.ensures.small in
+    let inner : to_z w64 (of_z w64 c.dual_sum.result) +ℤ to_z w64 (of_z w64 c.fleet_price.result) ≡ c.dual_sum.result +ℤ c.fleet_price.result = ap₂ ◌+ℤ◌ (held c.dual_sum.result 60000000000000 ds (omega arith)) (held c.fleet_price.result 60000000000000000 fs (omega arith)) in
+    let sum : nat_abs (c.dual_sum.result +ℤ c.fleet_price.result) ≤ 61000000000000000 = omega (arith, ints, ds, fs) in
+    subst (SFits w64) (sym inner) (fits_small (c.dual_sum.result +ℤ c.fleet_price.result) 61000000000000000 sum (omega arith))
 
 pub returns : goal.returns
 returns g c =
     let m = g.N.Network.meaning c.args.network.now in
     let leaf = c.args.leaf in
-    let right : c.dual-sum.result +ℤ c.fleet-price.result ≡ bound m (leaf_of (g.M.Measure.meaning c.args.measure.now) leaf) = ap₂ ◌+ℤ◌ c.dual-sum.ensures.value (fleet_counts m leaf.price c.fleet-price.result c.fleet.result c.counted-vans.result c.requires.small.price c.fleet.ensures c.counted-vans.ensures c.fleet-price.ensures.value) in
-    c.test-bound.ensures ∙ ap (λ b. cond b (Ok tt) (Err Bound)) (tested c.scaled-below.result c.dual-sum.result c.fleet-price.result (pos leaf.scale *ℤ (pos c.args.cost -ℤ pos 1)) (bound m (leaf_of (g.M.Measure.meaning c.args.measure.now) leaf)) c.dual-sum.ensures.small c.fleet-price.ensures.small (record { sfits = c.scaled-below.type-inv }) c.scaled-below.ensures right)
+    let right : c.dual_sum.result +ℤ c.fleet_price.result ≡ bound m (leaf_of (g.M.Measure.meaning c.args.measure.now) leaf) = ap₂ ◌+ℤ◌ c.dual_sum.ensures.value (fleet_counts m leaf.price c.fleet_price.result c.fleet.result c.counted_vans.result c.requires.small.price c.fleet.ensures c.counted_vans.ensures c.fleet_price.ensures.value) in
+    c.test_bound.ensures ∙ ap (λ b. cond b (Ok tt) (Err Bound)) (tested c.scaled_below.result c.dual_sum.result c.fleet_price.result (pos leaf.scale *ℤ (pos c.args.cost -ℤ pos 1)) (bound m (leaf_of (g.M.Measure.meaning c.args.measure.now) leaf)) c.dual_sum.ensures.small c.fleet_price.ensures.small (record { sfits = c.scaled_below.type-inv }) c.scaled_below.ensures right)

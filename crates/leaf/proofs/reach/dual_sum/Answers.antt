@@ -9,8 +9,8 @@ use Rattle.leaf.proofs.reach.dual_sum.Goals as goal
 pub loop-dual-init : goal.loop-dual-init
 loop-dual-init c = (omega arith, omega (arith, ints), omega (arith, ints))
 
-pub with-dual-sum-requires : goal.with-dual-sum-requires
-with-dual-sum-requires c =
+pub with_dual-sum-requires : goal.with_dual-sum-requires
+with_dual-sum-requires c =
     let s = c.loop-dual in
     let xs = c.args.duals.now in
     let small = All-get_or (λ p. nat_abs p ≤ 1000000000000) xs s.dual-index (pos 0) c.loop-dual-test.true c.requires.1 in
@@ -22,7 +22,7 @@ loop-dual-preserved c =
     let xs = c.args.duals.now in
     let small = All-get_or (λ p. nat_abs p ≤ 1000000000000) xs s.dual-index (pos 0) c.loop-dual-test.true c.requires.1 in
     let more = at_drop_more sum_z xs s.dual-index (pos 0) c.loop-dual-test.true in
-    (omega arith, omega (arith, ints, s.invariant.1, c.with-dual-sum.ensures), omega (arith, ints, s.invariant.2, more, c.with-dual-sum.ensures))
+    (omega arith, omega (arith, ints, s.invariant.1, c.with_dual-sum.ensures), omega (arith, ints, s.invariant.2, more, c.with_dual-sum.ensures))
 
 pub returns : goal.returns
 returns c =

@@ -3,8 +3,8 @@ use Rattle.std.proofs.lemmas.Int.{to_z-of_z}
 use Rattle.leaf.proofs.Products.{product_small, fits_small, held_product}
 use Rattle.leaf.proofs.reach.fleet_price.Goals as goal
 
-pub overflow-mul-result : goal.overflow-mul-result
-overflow-mul-result c =
+pub overflow_mul-result : goal.overflow_mul-result
+overflow_mul-result c =
     let small = product_small c.args.price (pos c.args.vans) 1000000000000000 60 c.requires.0 c.requires.1 in
     subst (SFits w64) (sym (held_product c.args.price c.args.vans c.ranges.price (omega (arith, c.requires.1)))) (fits_small (c.args.price *ℤ pos c.args.vans) 60000000000000000 small (omega arith))
 

@@ -16,8 +16,8 @@ held_fits : (s n : ℕ) → s ≤ 1000 → n < 2 ^ 32 → SFits w64 (to_z w64 s 
 held_fits s n few below =
     subst (SFits w64) (sym (held s n few below)) (fits_small (pos s *ℤ (pos n -ℤ pos 1)) 4294967296000 (product_small (pos s) (pos n -ℤ pos 1) 1000 4294967296 few (less_small n below)) (omega arith))
 
-pub overflow-mul-result : goal.overflow-mul-result
-overflow-mul-result c = held_fits c.args.scale c.args.cost c.requires (omega (arith, c.ranges.cost.fits))
+pub overflow_mul-result : goal.overflow_mul-result
+overflow_mul-result c = held_fits c.args.scale c.args.cost c.requires (omega (arith, c.ranges.cost.fits))
 
 pub returns : goal.returns
 returns c =

@@ -9,22 +9,22 @@ pub loop-k-init : goal.loop-k-init
 loop-k-init c =
     (omega arith, read_none (read_amount 1000000000000 c.args.bytes.now) c.args.at 8 (length c.args.room.now) c.args.room.now)
 
-pub returns-in-err-dual : goal.returns-in-err-dual
-returns-in-err-dual c =
+pub returns-in_err-dual : goal.returns-in_err-dual
+returns-in_err-dual c =
     let s = c.loop-k in
-    let p = err_from_is_err_and c.from-residual.result c.from-residual.ensures.1 in
+    let p = err_from_is_err_and c.from_residual.result c.from_residual.ensures.1 in
     rw (p.1, p.2)
-    (read_broken (read_amount 1000000000000 c.args.bytes.now) c.args.at 8 (length c.args.room.now) s.room s.k _ c.loop-k-test.true (sym c.in-err-dual.ensures) s.invariant.1)
+    (read_broken (read_amount 1000000000000 c.args.bytes.now) c.args.at 8 (length c.args.room.now) s.room s.k _ c.loop-k-test.true (sym c.in_err-dual.ensures) s.invariant.1)
 
 pub loop-k-preserved : goal.loop-k-preserved
 loop-k-preserved c =
     let s = c.loop-k in
-    let x = c.in-ok-dual.field-0 in
+    let x = c.in_ok-dual.field-0 in
     let fits : SFits w64 x = search rules in
     let same : x ≡ to_z w64 (of_z w64 x) = sym (to_z-of_z w64 x fits) in
     let read = read_amount 1000000000000 c.args.bytes.now in (
       simp length-set (omega arith),
-      read_more read c.args.at 8 (length c.args.room.now) s.room s.k (to_z w64 (of_z w64 x)) c.loop-k-test.true s.auto.room (sym c.in-ok-dual.ensures ∙ ap Ok same) s.invariant.1,
+      read_more read c.args.at 8 (length c.args.room.now) s.room s.k (to_z w64 (of_z w64 x)) c.loop-k-test.true s.auto.room (sym c.in_ok-dual.ensures ∙ ap Ok same) s.invariant.1,
     )
 
 pub returns : goal.returns

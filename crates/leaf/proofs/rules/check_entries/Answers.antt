@@ -5,8 +5,8 @@ use Rattle.leaf.proofs.Firsts.{none_first, some_first, found_low}
 use Rattle.leaf.proofs.Picked.{entry_lies}
 use Rattle.leaf.proofs.rules.check_entries.Goals as goal
 
-pub offset-of-requires : goal.offset-of-requires
-offset-of-requires g c =
+pub offset_of-requires : goal.offset_of-requires
+offset_of-requires g c =
     let h = c.args.leaf in
     let r = c.requires.0 in
     let μ = g.M.Measure.meaning c.args.measure.now in

@@ -23,14 +23,14 @@ same_test : (seen : List Bool) (front : List ℕ) (x : ℕ) → x < 256 → ((y 
 same_test seen front x small same =
     ⊎_elim (λ some. ap (λ b. ltb 0 x && b) (same x some small)) (λ none. and_left _ _ (le-ltb 0 x none) ∙ sym (and_left _ _ (le-ltb 0 x none))) (cases_lt 0 x)
 
-pub returns-then-is-repeat : goal.returns-then-is-repeat
-returns-then-is-repeat c =
+pub returns-then-is_repeat : goal.returns-then-is_repeat
+returns-then-is_repeat c =
     let s = c.loop-k in
     let xs = c.args.listing.now in
     let x = get_or xs s.k 0 in
     let small : x < 256 = search rules in
     let more = at_drop_more (repeated (take s.k xs) s.k) xs s.k 0 (omega arith) in
-    let again = sym (same_test s.seen (take s.k xs) x small s.invariant.3) ∙ sym c.if-is-repeat.ensures in
+    let again = sym (same_test s.seen (take s.k xs) x small s.invariant.3) ∙ sym c.if-is_repeat.ensures in
     sym s.invariant.2 ∙ more ∙ cond-true _ _ _ again
 
 pub loop-k-preserved : goal.loop-k-preserved
@@ -41,7 +41,7 @@ loop-k-preserved c =
     let small : x < 256 = search rules in
     let front = take_more xs s.k 0 (omega arith) in
     let more = at_drop_more (repeated (take s.k xs) s.k) xs s.k 0 (omega arith) in
-    let new = sym (same_test s.seen (take s.k xs) x small s.invariant.3) ∙ sym c.if-is-repeat.ensures in (
+    let new = sym (same_test s.seen (take s.k xs) x small s.invariant.3) ∙ sym c.if-is_repeat.ensures in (
       omega arith,
       length-set s.seen x true ∙ s.invariant.1,
       ap (λ l. repeated l (s.k + 1) (drop (s.k + 1) xs)) front ∙ sym (cond-false _ _ _ new) ∙ sym more ∙ s.invariant.2,

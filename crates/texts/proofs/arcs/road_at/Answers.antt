@@ -6,10 +6,10 @@ use Rattle.texts.proofs.arcs.road_at.Goals as goal
 pub returns-then-cut-word : goal.returns-then-cut-word
 returns-then-cut-word c = sym (no_slash c.args.at c.args.word.now c.slash-cut.result c.slash-cut.ensures.first c.if-cut-word.true)
 
-pub returns-in-default-number-of : goal.returns-in-default-number-of
-returns-in-default-number-of c = sym (no_second c.args.at c.args.word.now c.slash-cut.result _ _ c.slash-cut.ensures.first c.number-of.ensures c.number-of-2.ensures c.in-default-number-of.is)
+pub returns-in_default-number_of : goal.returns-in_default-number_of
+returns-in_default-number_of c = sym (no_second c.args.at c.args.word.now c.slash-cut.result _ _ c.slash-cut.ensures.first c.number_of.ensures c.number_of-2.ensures c.in_default-number_of.is)
 
 pub returns : goal.returns
 returns c =
-    ap (as_fields road_fields) c.ok-or.ensures.value
-    ∙ both_sides c.args.at c.args.word.now c.slash-cut.result _ _ c.new.result c.slash-cut.ensures.first c.in-Some.ensures c.in-Some-number-of.ensures c.new.ensures
+    ap (as_fields road_fields) c.ok_or.ensures.value
+    ∙ both_sides c.args.at c.args.word.now c.slash-cut.result _ _ c.new.result c.slash-cut.ensures.first c.in-Some.ensures c.in-Some-number_of.ensures c.new.ensures

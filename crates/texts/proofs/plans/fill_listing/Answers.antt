@@ -7,12 +7,12 @@ use Rattle.texts.proofs.plans.fill_listing.Goals as goal
 
 pub returns : goal.returns
 returns c =
-    let new = c.copy-from-slice.new.self in
+    let new = c.copy_from_slice.new.self in
     let old = c.args.listing.now in
-    let n = c.in-ok-count.count in
-    let few : n ≤ 120 = c.in-ok-count.ensures.1 in
-    let p = copied new c.judge-plan.new.numbers n (omega arith) c.copy-from-slice.ensures.after in (
-      ap (fits_listing (length old)) c.in-ok-count.ensures.0
+    let n = c.in_ok-count.count in
+    let few : n ≤ 120 = c.in_ok-count.ensures.1 in
+    let p = copied new c.judge_plan.new.numbers n (omega arith) c.copy_from_slice.ensures.after in (
+      ap (fits_listing (length old)) c.in_ok-count.ensures.0
           ∙ cond-false (ltb (length old) 120) _ _ (le-ltb (length old) 120 c.if-listing-lt120.false)
           ∙ ap Ok (sym p.1 ∙ sym (written new old n p.0)),
       omega (arith, length-append new (post_of 0 (n - 0) old), p.0),

@@ -7,13 +7,13 @@ use Rattle.texts.proofs.scan.word_end.Goals as goal
 pub loop-at-preserved : goal.loop-at-preserved
 loop-at-preserved c = (
   omega arith,
-  omega (arith, prefix_len-drop_yes letter c.args.text.now c.loop-at.at 0 (omega arith) (not_from_false _ (sym c.if-not-is-blank.ensures))),
+  omega (arith, prefix_len-drop_yes letter c.args.text.now c.loop-at.at 0 (omega arith) (not_from_false _ (sym c.if-not-is_blank.ensures))),
 )
 
-pub returns-else-not-is-blank : goal.returns-else-not-is-blank
-returns-else-not-is-blank c = record {
+pub returns-else-not-is_blank : goal.returns-else-not-is_blank
+returns-else-not-is_blank c = record {
   within = omega arith;
-  end = omega (arith, prefix_len-drop_no letter c.args.text.now c.loop-at.at 0 (omega arith) (not_from_true _ (sym c.if-not-is-blank.ensures)));
+  end = omega (arith, prefix_len-drop_no letter c.args.text.now c.loop-at.at 0 (omega arith) (not_from_true _ (sym c.if-not-is_blank.ensures)));
 }
 
 pub returns-after-loop-at : goal.returns-after-loop-at

@@ -1,7 +1,7 @@
 use Rattle.std.proofs.Common.{◌≡◌, Bool, ltb, List, length, sym, refl, subst}
 use Rattle.decisions.specs.declared.decision.Decision.{Decision}
 use Rattle.decisions.specs.Branches.{kept, trimmed, backed_up}
-use Rattle.decisions.specs.Forks.{Goes_on}
+use Rattle.decisions.specs.Forks.{GoesOn}
 use Rattle.decisions.proofs.Search.{back_up_goes_on}
 use Rattle.decisions.proofs.layer.DecisionLayer.back_up.Goals as goal
 
@@ -10,11 +10,11 @@ returns g c =
     let x = c.args.self.now in
     let m = g.N.Network.meaning x.below in
     let ds = kept x.decisions in
-    let list = c.back-up-more.ensures.list in
-    let answer = c.back-up-more.ensures.answer in
+    let list = c.back_up-more.ensures.list in
+    let answer = c.back_up-more.ensures.answer in
     record {
       answer = answer;
       list = list;
       stays = refl;
-      plans = subst (λ (r : Bool). Goes_on m ds r (kept c.back-up-more.new.self)) (sym answer) (subst (λ (es : List Decision). Goes_on m ds (ltb 0 (length (trimmed ds))) es) (sym list) (back_up_goes_on m ds));
+      plans = subst (λ (r : Bool). GoesOn m ds r (kept c.back_up-more.new.self)) (sym answer) (subst (λ (es : List Decision). GoesOn m ds (ltb 0 (length (trimmed ds))) es) (sym list) (back_up_goes_on m ds));
     }

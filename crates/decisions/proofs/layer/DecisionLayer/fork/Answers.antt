@@ -2,18 +2,18 @@ use Rattle.std.proofs.Common.{◌≡◌, List, [], ◌∷◌, ◌++◌, sym, ref
 use Rattle.decisions.specs.declared.decision.Decision.{Decision}
 use Rattle.decisions.specs.Decisions.{forbid, decided}
 use Rattle.decisions.specs.Branches.{kept}
-use Rattle.decisions.specs.Forks.{Stays_open}
+use Rattle.decisions.specs.Forks.{StaysOpen}
 use Rattle.decisions.specs.Removed.{Tells}
 use Rattle.decisions.proofs.Decided.{decided_push}
 use Rattle.decisions.proofs.Marked.{tells_push}
 use Rattle.decisions.proofs.Search.{fork_open}
 use Rattle.decisions.proofs.layer.DecisionLayer.fork.Goals as goal
 
-pub invariant-of-self : goal.invariant-of-self
-invariant-of-self g c = let x = c.args.self.now in (subst (Tells x.removed.cells) (sym c.if-not-push.ensures.list) x.same, tt)
+pub invariant_of-self : goal.invariant_of-self
+invariant_of-self g c = let x = c.args.self.now in (subst (Tells x.removed.cells) (sym c.if-not-push.ensures.list) x.same, tt)
 
-pub invariant-of-self-2 : goal.invariant-of-self-2
-invariant-of-self-2 g c =
+pub invariant_of-self-2 : goal.invariant_of-self-2
+invariant_of-self-2 g c =
     let x = c.args.self.now in
     let table = c.add.new.self.cells in
     (subst (Tells table) (sym c.if-not-push.ensures.list) (tells_push (kept x.decisions) c.forbid-decision.result x.removed.cells table x.same c.add.ensures), tt)
@@ -29,7 +29,7 @@ returns-then-not-push g c =
       list = list;
       stays = refl;
       network = ap (decided m) list;
-      plans = subst (Stays_open m ds) (sym list) (λ routes o. o);
+      plans = subst (StaysOpen m ds) (sym list) (λ routes o. o);
     }
 
 pub returns : goal.returns
@@ -44,5 +44,5 @@ returns g c =
       list = list;
       stays = refl;
       network = ap (decided m) list ∙ decided_push m ds (forbid c.args.from c.args.to);
-      plans = subst (Stays_open m ds) (sym list) (fork_open m ds c.args.from c.args.to);
+      plans = subst (StaysOpen m ds) (sym list) (fork_open m ds c.args.from c.args.to);
     }

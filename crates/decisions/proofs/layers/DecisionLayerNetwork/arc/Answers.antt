@@ -18,21 +18,21 @@ none_either false = refl
 
 pub has-requires : goal.has-requires
 has-requires g c =
-    low (g.N.Network.meaning c.args.self.now.below) (g.N.Network.limits c.args.self.now.below) c.args.i c.args.j c.in-ok-arc.arc (sym c.in-ok-arc.ensures)
+    low (g.N.Network.meaning c.args.self.now.below) (g.N.Network.limits c.args.self.now.below) c.args.i c.args.j c.in_ok-arc.arc (sym c.in_ok-arc.ensures)
 
-pub returns-in-err-arc : goal.returns-in-err-arc
-returns-in-err-arc g c =
+pub returns-in_err-arc : goal.returns-in_err-arc
+returns-in_err-arc g c =
     let m = g.N.Network.meaning c.args.self.now.below in
     let ds = kept c.args.self.now.decisions in
     let gone = removed ds c.args.i c.args.j in
-    c.from-residual.ensures ∙ none_either gone ∙ ap (cond gone None) c.in-err-arc.ensures ∙ sym (decided_arc m ds c.args.i c.args.j)
+    c.from_residual.ensures ∙ none_either gone ∙ ap (cond gone None) c.in_err-arc.ensures ∙ sym (decided_arc m ds c.args.i c.args.j)
 
 pub returns-then-has : goal.returns-then-has
 returns-then-has g c =
     let x = c.args.self.now in
     let m = g.N.Network.meaning x.below in
     let ds = kept x.decisions in
-    let l = low m (g.N.Network.limits x.below) c.args.i c.args.j c.in-ok-arc.arc (sym c.in-ok-arc.ensures) in
+    let l = low m (g.N.Network.limits x.below) c.args.i c.args.j c.in_ok-arc.arc (sym c.in_ok-arc.ensures) in
     sym (decided_arc m ds c.args.i c.args.j ∙ cond-true _ _ _ (sym (told ds x.removed.cells x.same c.args.i c.args.j l.0 l.1) ∙ sym c.if-has.ensures))
 
 pub returns : goal.returns
@@ -40,5 +40,5 @@ returns g c =
     let x = c.args.self.now in
     let m = g.N.Network.meaning x.below in
     let ds = kept x.decisions in
-    let l = low m (g.N.Network.limits x.below) c.args.i c.args.j c.in-ok-arc.arc (sym c.in-ok-arc.ensures) in
-    c.in-ok-arc.ensures ∙ sym (decided_arc m ds c.args.i c.args.j ∙ cond-false _ _ _ (sym (told ds x.removed.cells x.same c.args.i c.args.j l.0 l.1) ∙ sym c.if-has.ensures))
+    let l = low m (g.N.Network.limits x.below) c.args.i c.args.j c.in_ok-arc.arc (sym c.in_ok-arc.ensures) in
+    c.in_ok-arc.ensures ∙ sym (decided_arc m ds c.args.i c.args.j ∙ cond-false _ _ _ (sym (told ds x.removed.cells x.same c.args.i c.args.j l.0 l.1) ∙ sym c.if-has.ensures))

@@ -7,7 +7,7 @@ loop-place-init c = adds_none c.args.decision c.args.self.now.cells
 
 pub loop-place-preserved : goal.loop-place-preserved
 loop-place-preserved c =
-    adds_more c.args.decision c.loop-place.place c.args.self.now.cells c.loop-place.self.cells c.enter-beside.new.self.cells c.loop-place.invariant c.enter-beside.ensures
+    adds_more c.args.decision c.loop-place.place c.args.self.now.cells c.loop-place.self.cells c.enter_beside.new.self.cells c.loop-place.invariant c.enter_beside.ensures
 
 pub returns : goal.returns
 returns c =
