@@ -172,7 +172,7 @@ pub judged : {S : Type 0} (μ : Measuring S) (m : Meaning) (bytes : List ℕ) (z
 judged {S} μ m bytes z laws limits = record {
   granted_holds = λ e. found e;
   holds_granted = λ leaf reads holds. ap (λ r. after r λ l. rule_answer μ m l z) (reads_to μ m.customers bytes leaf reads) ∙ rule_passes μ m leaf limits z holds;
-  granted_bounds = λ e. let it = found e in leaf_bounds μ m it.0 z laws limits it.1.duals_long it.1.Scale-small.0 it.2;
+  granted_bounds = λ e. let it = found e in leaf_bounds μ m it.0 z laws limits it.1.duals_long it.1.scale_small.0 it.2;
 }
   where
     found : leaf_answer μ m bytes z ≡ Ok tt → (leaf : Leaf S) × Reads μ m.customers bytes leaf × Holds μ m leaf z

@@ -6,8 +6,8 @@ use Rattle.leaf.specs.Held.{leaf_of, Cheap}
 use Rattle.leaf.proofs.Allowed.{refused_here, refused_on, refused_none}
 use Rattle.leaf.proofs.arcs.first_broken.Goals as goal
 
-pub keeps-rule-requires-in-loop-to : goal.keeps-rule-requires-in-loop-to
-keeps-rule-requires-in-loop-to g c =
+pub keeps_rule-requires : goal.keeps_rule-requires
+keeps_rule-requires g c =
     let below : c.loop-to.to < length c.args.row.now = omega (arith, c.requires.0.few, c.requires.1.1) in
     (c.requires.0, (All-get_or Cheap c.args.row.now c.loop-to.to None below c.requires.1.0, omega arith))
 

@@ -48,4 +48,4 @@ returns g c =
     let m = g.N.Network.meaning c.args.network.now in
     let leaf = c.args.leaf in
     let right : c.dual_sum.result +ℤ c.fleet_price.result ≡ bound m (leaf_of (g.M.Measure.meaning c.args.measure.now) leaf) = ap₂ ◌+ℤ◌ c.dual_sum.ensures.value (fleet_counts m leaf.price c.fleet_price.result c.fleet.result c.counted_vans.result c.requires.small.price c.fleet.ensures c.counted_vans.ensures c.fleet_price.ensures.value) in
-    c.test_bound.ensures ∙ ap (λ b. cond b (Ok tt) (Err Bound)) (tested c.scaled_below.result c.dual_sum.result c.fleet_price.result (pos leaf.scale *ℤ (pos c.args.cost -ℤ pos 1)) (bound m (leaf_of (g.M.Measure.meaning c.args.measure.now) leaf)) c.dual_sum.ensures.small c.fleet_price.ensures.small (record { sfits = c.scaled_below.type-inv }) c.scaled_below.ensures right)
+    c.test_bound.ensures ∙ ap (λ b. cond b (Ok tt) (Err Bound)) (tested c.scaled_below.result c.dual_sum.result c.fleet_price.result (pos leaf.scale *ℤ (pos c.args.cost -ℤ pos 1)) (bound m (leaf_of (g.M.Measure.meaning c.args.measure.now) leaf)) c.dual_sum.ensures.small c.fleet_price.ensures.small (record { sfits = c.scaled_below.type_inv }) c.scaled_below.ensures right)

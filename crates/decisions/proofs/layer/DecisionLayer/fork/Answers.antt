@@ -10,13 +10,13 @@ use Rattle.decisions.proofs.Search.{fork_open}
 use Rattle.decisions.proofs.layer.DecisionLayer.fork.Goals as goal
 
 pub invariant_of-self : goal.invariant_of-self
-invariant_of-self g c = let x = c.args.self.now in (subst (Tells x.removed.cells) (sym c.if-not-push.ensures.list) x.same, tt)
+invariant_of-self g c = let x = c.args.self.now in record { same = subst (Tells x.removed.cells) (sym c.if-not-push.ensures.list) x.same }
 
 pub invariant_of-self-2 : goal.invariant_of-self-2
 invariant_of-self-2 g c =
     let x = c.args.self.now in
     let table = c.add.new.self.cells in
-    (subst (Tells table) (sym c.if-not-push.ensures.list) (tells_push (kept x.decisions) c.forbid-decision.result x.removed.cells table x.same c.add.ensures), tt)
+    record { same = subst (Tells table) (sym c.if-not-push.ensures.list) (tells_push (kept x.decisions) c.forbid-decision.result x.removed.cells table x.same c.add.ensures) }
 
 pub returns-then-not-push : goal.returns-then-not-push
 returns-then-not-push g c =
