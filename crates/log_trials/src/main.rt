@@ -1,9 +1,9 @@
 // Logs of a check over the two-stop case, each with the depot opening at 0 and late: every call's answer on a line.
 #![tactic(auto)]
 
-use check::calls::{Answer, Call, Grant, Standing};
-use check::faults::CheckFault;
-use check::running::run_log;
+use checking::calls::{Answer, Call, Grant, Standing};
+use checking::faults::CheckFault;
+use checking::running::run_log;
 use measures::load::Load;
 use routing::cells::{Head, Place, Road};
 use routing::tables::TableNetwork;

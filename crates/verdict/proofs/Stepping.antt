@@ -2,9 +2,9 @@
 use Rattle.std.proofs.Common.{◌≡◌, ℕ, suc, ◌+◌, ◌-◌, ◌<◌, List, Ok, Err, Result, sym, refl, ap, ◌∙◌, subst, arith}
 use Rattle.routing.specs.Network.{Meaning}
 use Rattle.measures.specs.Measure.{Measuring}
-use Rattle.check.specs.declared.checks.Check.{Check}
-use Rattle.check.specs.Calls.{State}
-use Rattle.check.specs.States.{network_of, state_of}
+use Rattle.checking.specs.declared.checks.Check.{Check}
+use Rattle.checking.specs.Calls.{State}
+use Rattle.checking.specs.States.{network_of, state_of}
 use Rattle.trees.specs.Tree.{record_answer}
 use Rattle.verdict.specs.declared.faults.JudgeFault.{JudgeFault}
 use Rattle.verdict.specs.Nodes.{node_taken, next, walk, Reached}

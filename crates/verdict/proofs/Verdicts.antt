@@ -6,12 +6,12 @@ use Rattle.measures.specs.Measure.{Measuring}
 use Rattle.measures.specs.Time.{time_measuring}
 use Rattle.measures.specs.Load.{load_measuring}
 use Rattle.measures.specs.Pair.{pair_measuring}
-use Rattle.check.specs.declared.calls.Grant.{Grant}
-use Rattle.check.specs.declared.calls.Standing.{Standing}
-use Rattle.check.specs.declared.checks.Check.{Check}
-use Rattle.check.specs.declared.faults.CheckFault.{CheckFault}
-use Rattle.check.specs.Calls.{State, Attempt, opening, present, standing, attempt, after, answer_of}
-use Rattle.check.specs.States.{network_of, state_of, Does}
+use Rattle.checking.specs.declared.calls.Grant.{Grant}
+use Rattle.checking.specs.declared.calls.Standing.{Standing}
+use Rattle.checking.specs.declared.checks.Check.{Check}
+use Rattle.checking.specs.declared.faults.CheckFault.{CheckFault}
+use Rattle.checking.specs.Calls.{State, Attempt, opening, present, standing, attempt, after, answer_of}
+use Rattle.checking.specs.States.{network_of, state_of, Does}
 use Rattle.trees.specs.declared.faults.TreeFault.{TreeFault}
 use Rattle.trees.specs.declared.head.Kind.{Kind}
 use Rattle.trees.specs.declared.head.Kind.TheVariants.{Time, Load, TimeLoad}

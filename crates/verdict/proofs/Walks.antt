@@ -9,14 +9,14 @@ use Rattle.measures.specs.Load.{load_measuring}
 use Rattle.measures.specs.LoadLaws.{load_laws}
 use Rattle.measures.specs.Pair.{pair_measuring}
 use Rattle.measures.specs.PairLaws.{pair_laws}
-use Rattle.check.specs.declared.calls.Grant.{Grant}
-use Rattle.check.specs.declared.calls.Grant.TheVariants.{Presented}
-use Rattle.check.specs.declared.calls.Standing.{Standing}
-use Rattle.check.specs.declared.calls.Standing.TheVariants.{Proved}
-use Rattle.check.specs.Calls.{State, Attempt, opening, present, standing, presenting, attempt, after}
-use Rattle.check.specs.Promise.{Cheapest}
-use Rattle.check.proofs.Soundness.{Sound, opening_sound, step_sound, proved_true, after_granted}
-use Rattle.check.proofs.Leaves.{answer_bounds}
+use Rattle.checking.specs.declared.calls.Grant.{Grant}
+use Rattle.checking.specs.declared.calls.Grant.TheVariants.{Presented}
+use Rattle.checking.specs.declared.calls.Standing.{Standing}
+use Rattle.checking.specs.declared.calls.Standing.TheVariants.{Proved}
+use Rattle.checking.specs.Calls.{State, Attempt, opening, present, standing, presenting, attempt, after}
+use Rattle.checking.specs.Promise.{Cheapest}
+use Rattle.checking.proofs.Soundness.{Sound, opening_sound, step_sound, proved_true, after_granted}
+use Rattle.checking.proofs.Leaves.{answer_bounds}
 use Rattle.trees.specs.declared.faults.TreeFault.{TreeFault}
 use Rattle.trees.specs.declared.head.Kind.{Kind}
 use Rattle.trees.specs.declared.head.Kind.TheVariants.{Time, Load, TimeLoad}

@@ -4,7 +4,7 @@ use Rattle.routing.specs.declared.denials.Denial.{Denial}
 use Rattle.files.specs.Faults.{text_denial}
 use Rattle.files.specs.declared.faults.Part.{Part}
 use Rattle.files.specs.declared.faults.Part.TheVariants.{Case, Plan, Tree}
-use Rattle.check.specs.Faults.{check_denial}
+use Rattle.checking.specs.Faults.{check_denial}
 use Rattle.trees.specs.Faults.{tree_denial}
 use Rattle.verdict.specs.declared.faults.JudgeFault.{JudgeFault}
 use Rattle.verdict.specs.declared.faults.JudgeFault.TheVariants.{CaseRefused, PlanRefused, NotPresented, TreeRefused, AtNode}

@@ -11,11 +11,11 @@ use Rattle.files.specs.declared.lines.Line.{Line}
 use Rattle.measures.specs.Time.{time_measuring}
 use Rattle.measures.specs.Load.{load_measuring}
 use Rattle.measures.specs.Pair.{pair_measuring}
-use Rattle.check.specs.declared.calls.Standing.{Standing}
-use Rattle.check.specs.declared.calls.Standing.TheVariants.{Proved}
-use Rattle.check.specs.declared.faults.CheckFault.{CheckFault}
-use Rattle.check.specs.Calls.{State, Attempt, opening, present, standing}
-use Rattle.check.specs.Promise.{Cheapest}
+use Rattle.checking.specs.declared.calls.Standing.{Standing}
+use Rattle.checking.specs.declared.calls.Standing.TheVariants.{Proved}
+use Rattle.checking.specs.declared.faults.CheckFault.{CheckFault}
+use Rattle.checking.specs.Calls.{State, Attempt, opening, present, standing}
+use Rattle.checking.specs.Promise.{Cheapest}
 use Rattle.trees.specs.declared.faults.TreeFault.{TreeFault}
 use Rattle.trees.specs.declared.head.Kind.{Kind}
 use Rattle.trees.specs.declared.head.Kind.TheVariants.{Time, Load, TimeLoad}

@@ -2,8 +2,8 @@
 use Rattle.std.specs.Prelude.{Ok, Err, Result}
 use Rattle.files.specs.declared.lines.Line.{Line}
 use Rattle.files.specs.declared.lines.Line.TheVariants.{Optimal, Open, Fault}
-use Rattle.check.specs.declared.calls.Standing.{Standing}
-use Rattle.check.specs.declared.calls.Standing.TheVariants.{Proved, Open as StillOpen}
+use Rattle.checking.specs.declared.calls.Standing.{Standing}
+use Rattle.checking.specs.declared.calls.Standing.TheVariants.{Proved, Open as StillOpen}
 use Rattle.verdict.specs.declared.faults.JudgeFault.{JudgeFault}
 use Rattle.verdict.specs.Faults.{judge_denial, judge_part, judge_node}
 

@@ -2,8 +2,8 @@
 use Rattle.std.specs.Prelude.{◌≡◌, ℕ, zero, suc, ◌+◌, ◌*◌, cond, List, [], ◌∷◌, Some, None, Ok, Err, Option, Result, ◌==◌}
 use Rattle.routing.specs.Network.{Meaning}
 use Rattle.measures.specs.Measure.{Measuring}
-use Rattle.check.specs.declared.calls.Grant.{Grant}
-use Rattle.check.specs.Calls.{State, Attempt, Request, forking, closing, attempt}
+use Rattle.checking.specs.declared.calls.Grant.{Grant}
+use Rattle.checking.specs.Calls.{State, Attempt, Request, forking, closing, attempt}
 use Rattle.trees.specs.declared.faults.TreeFault.TheVariants.{Pair}
 use Rattle.trees.specs.Tree.{record_answer}
 use Rattle.verdict.specs.declared.faults.JudgeFault.{JudgeFault}

@@ -3,7 +3,7 @@ ghost use Rattle.std.specs.Prelude.{◌≡◌};
 ghost use Rattle.verdict.specs.declared.faults.JudgeFault.TheVariants.{NotPresented, TreeRefused, AtNode};
 ghost use Rattle.verdict.specs.Faults.{judge_denial, judge_part, judge_node};
 
-use check::faults::CheckFault;
+use checking::faults::CheckFault;
 use files::faults::{Part, text_denial};
 use routing::denials::Denial;
 use texts::faults::TextFault;

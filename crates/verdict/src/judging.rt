@@ -1,16 +1,16 @@
 // The verdict on three files, and its line.
 ghost use Rattle.std.specs.Prelude.{◌≡◌, ℕ, ◌≤◌, length, Ok};
-ghost use Rattle.check.specs.States.{network_of, state_of};
+ghost use Rattle.checking.specs.States.{network_of, state_of};
 ghost use Rattle.verdict.specs.Judging.{walk_by, judged, FilesJudged, LineFor};
-ghost use Rattle.check.specs.Promise.{Cheapest};
-ghost use Rattle.check.specs.declared.calls.Standing.TheVariants.{Proved};
+ghost use Rattle.checking.specs.Promise.{Cheapest};
+ghost use Rattle.checking.specs.declared.calls.Standing.TheVariants.{Proved};
 ghost use Rattle.verdict.specs.Lines.{verdict_line};
 ghost use Rattle.verdict.specs.Nodes.{Reached};
 
 use crate::faults::JudgeFault;
 use crate::nodes::take_nodes;
-use check::calls::Standing;
-use check::checks::Check;
+use checking::calls::Standing;
+use checking::checks::Check;
 use files::judging::counted_bytes;
 use files::lines::Line;
 use measures::load::Load;

@@ -1,14 +1,14 @@
 // The records of a tree, taken by a check.
 ghost use Rattle.std.specs.Prelude.{◌≡◌, ◌+◌, ◌<◌, ◌≤◌};
 ghost use Rattle.trees.specs.Tree.{record_answer};
-ghost use Rattle.check.specs.Calls.{attempt};
-ghost use Rattle.check.specs.Logs.{request};
-ghost use Rattle.check.specs.States.{network_of, state_of};
+ghost use Rattle.checking.specs.Calls.{attempt};
+ghost use Rattle.checking.specs.Logs.{request};
+ghost use Rattle.checking.specs.States.{network_of, state_of};
 ghost use Rattle.verdict.specs.Nodes.{record_request, node_taken, walk, Taken, Reached};
 
 use crate::faults::{JudgeFault, NodeFault};
-use check::calls::Call;
-use check::checks::Check;
+use checking::calls::Call;
+use checking::checks::Check;
 use measures::measure::Measure;
 use routing::networks::Network;
 use trees::faults::TreeFault;

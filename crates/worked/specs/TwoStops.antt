@@ -9,12 +9,12 @@ use Rattle.replay.specs.declared.vans.Priced.{Priced}
 use Rattle.replay.specs.Answer.{price_answer}
 use Rattle.measures.specs.Load.{load_measuring}
 use Rattle.leaf.specs.declared.faults.LeafFault.TheVariants.{Entry, Depot, Bound}
-use Rattle.check.specs.declared.calls.Grant.{Grant}
-use Rattle.check.specs.declared.calls.Grant.TheVariants.{Presented, Closed, Stands}
-use Rattle.check.specs.declared.calls.Standing.TheVariants.{Proved}
-use Rattle.check.specs.declared.faults.CheckFault.{CheckFault}
-use Rattle.check.specs.declared.faults.CheckFault.TheVariants.{NotCheaper, Leaf}
-use Rattle.check.specs.Calls.{opening, Request, presenting, closing, asking, answers}
+use Rattle.checking.specs.declared.calls.Grant.{Grant}
+use Rattle.checking.specs.declared.calls.Grant.TheVariants.{Presented, Closed, Stands}
+use Rattle.checking.specs.declared.calls.Standing.TheVariants.{Proved}
+use Rattle.checking.specs.declared.faults.CheckFault.{CheckFault}
+use Rattle.checking.specs.declared.faults.CheckFault.TheVariants.{NotCheaper, Leaf}
+use Rattle.checking.specs.Calls.{opening, Request, presenting, closing, asking, answers}
 
 abbrev pub depot : (from : ℕ) → from ≤ 100 → Place
 depot from early = record { load = 0; opening = from; closing = 100; service = 0; loads = omega arith; opens = early; closes = omega arith; serves = omega arith }

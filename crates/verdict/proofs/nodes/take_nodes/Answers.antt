@@ -1,6 +1,6 @@
 use Rattle.std.proofs.Common.{Err, ap, ◌∙◌, arith}
 use Rattle.std.proofs.lemmas.Result.{err_from_is_err_and}
-use Rattle.check.specs.States.{network_of}
+use Rattle.checking.specs.States.{network_of}
 use Rattle.verdict.proofs.Stepping.{goes_on, ends}
 use Rattle.verdict.proofs.nodes.take_nodes.Goals as goal
 

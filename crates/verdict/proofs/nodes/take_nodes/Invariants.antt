@@ -1,5 +1,5 @@
 use Rattle.std.proofs.Common.{◌≡◌, ◌-◌}
-use Rattle.check.specs.States.{network_of, state_of}
+use Rattle.checking.specs.States.{network_of, state_of}
 use Rattle.verdict.specs.Nodes.{walk}
 use Rattle.verdict.proofs.nodes.take_nodes.Given as goal
 

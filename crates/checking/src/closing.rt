@@ -1,6 +1,6 @@
 // Closing a branch with a leaf.
-ghost use Rattle.check.specs.Calls.{close};
-ghost use Rattle.check.specs.States.{network_of, state_of, Does};
+ghost use Rattle.checking.specs.Calls.{close};
+ghost use Rattle.checking.specs.States.{network_of, state_of, Does};
 
 use crate::checks::Check;
 use crate::faults::CheckFault;

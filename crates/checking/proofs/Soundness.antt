@@ -17,13 +17,13 @@ use Rattle.decisions.specs.Forks.{Open, Ahead}
 use Rattle.decisions.specs.Lawful.{decided_limits}
 use Rattle.decisions.proofs.Parts.{cost_below}
 use Rattle.decisions.proofs.Search.{fork_open, back_up_goes_on}
-use Rattle.check.specs.declared.faults.CheckFault.{CheckFault}
-use Rattle.check.specs.declared.calls.Grant.{Grant}
-use Rattle.check.specs.declared.calls.Grant.TheVariants.{Stands}
-use Rattle.check.specs.declared.calls.Standing.TheVariants.{Proved}
-use Rattle.check.specs.declared.faults.CheckFault.TheVariants.{Finished, NoSuchArc, Full}
-use Rattle.check.specs.Calls.{State, opening, Attempt, no_dearer, holding, hold, present, fork_arc, no_arc, pushed, push, fork_on, fork, next_branch, leaf_closed, close_for, close, standing, standing_for, Request, presenting, forking, closing, asking, granted, attempt, after}
-use Rattle.check.specs.Promise.{Cheapest}
+use Rattle.checking.specs.declared.faults.CheckFault.{CheckFault}
+use Rattle.checking.specs.declared.calls.Grant.{Grant}
+use Rattle.checking.specs.declared.calls.Grant.TheVariants.{Stands}
+use Rattle.checking.specs.declared.calls.Standing.TheVariants.{Proved}
+use Rattle.checking.specs.declared.faults.CheckFault.TheVariants.{Finished, NoSuchArc, Full}
+use Rattle.checking.specs.Calls.{State, opening, Attempt, no_dearer, holding, hold, present, fork_arc, no_arc, pushed, push, fork_on, fork, next_branch, leaf_closed, close_for, close, standing, standing_for, Request, presenting, forking, closing, asking, granted, attempt, after}
+use Rattle.checking.specs.Promise.{Cheapest}
 
 -- below the cost held, where one is
 abbrev pub Cheaper : Option ℕ → ℕ → Type 0

@@ -23,13 +23,13 @@ use Rattle.decisions.proofs.Decided.{decided_push, decided_customers}
 use Rattle.decisions.proofs.Ends.{trimmed_first, trimmed_second, turned_push}
 use Rattle.decisions.proofs.Forks.{fork_splits}
 use Rattle.decisions.proofs.Parts.{plans_below_under}
-use Rattle.check.specs.declared.faults.CheckFault.{CheckFault}
-use Rattle.check.specs.declared.calls.Grant.{Grant}
-use Rattle.check.specs.declared.calls.Grant.TheVariants.{Presented, Forked, Closed, Stands}
-use Rattle.check.specs.declared.calls.Standing.TheVariants.{Proved}
-use Rattle.check.specs.Calls.{State, opening, Attempt, no_dearer, holding, hold, present, fork_arc, no_arc, pushed, push, branch, fork_on, fork, next_branch, leaf_closed, close_for, close, standing, standing_for, Request, presenting, forking, closing, asking, granted, attempt, after, answer_of}
-use Rattle.check.proofs.Soundness.{after_granted}
-use Rattle.check.specs.Promise.{Tree, leaf, fork as forkTree, tree_calls, depth, FullTree, Line, Denied, Granted, Idle, Makes, made, idle, call, SaysProved}
+use Rattle.checking.specs.declared.faults.CheckFault.{CheckFault}
+use Rattle.checking.specs.declared.calls.Grant.{Grant}
+use Rattle.checking.specs.declared.calls.Grant.TheVariants.{Presented, Forked, Closed, Stands}
+use Rattle.checking.specs.declared.calls.Standing.TheVariants.{Proved}
+use Rattle.checking.specs.Calls.{State, opening, Attempt, no_dearer, holding, hold, present, fork_arc, no_arc, pushed, push, branch, fork_on, fork, next_branch, leaf_closed, close_for, close, standing, standing_for, Request, presenting, forking, closing, asking, granted, attempt, after, answer_of}
+use Rattle.checking.proofs.Soundness.{after_granted}
+use Rattle.checking.specs.Promise.{Tree, leaf, fork as forkTree, tree_calls, depth, FullTree, Line, Denied, Granted, Idle, Makes, made, idle, call, SaysProved}
 
 denied_stays : (s : State) (t : Attempt Grant) (a : Result Grant CheckFault) → a ≡ answer_of t → Denied a → after s t ≡ s
 denied_stays s (Ok x) a e d = absurd (subst Denied e d)

@@ -1,7 +1,7 @@
 // The calls of a check.
 ghost use Rattle.std.specs.Prelude.{◌≡◌};
-ghost use Rattle.check.specs.Calls.{opening, present, fork, standing};
-ghost use Rattle.check.specs.States.{network_of, state_of, Does};
+ghost use Rattle.checking.specs.Calls.{opening, present, fork, standing};
+ghost use Rattle.checking.specs.States.{network_of, state_of, Does};
 
 use crate::calls::Standing;
 use crate::checks::Check;

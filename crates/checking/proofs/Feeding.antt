@@ -3,13 +3,13 @@ use Rattle.std.proofs.Common.{◌≡◌, ℕ, ◌+◌, ◌<◌, ◌≤◌, List,
 use Rattle.std.proofs.lemmas.List.{take_more_set, drop_more, drop-drop, drop_all, take_all}
 use Rattle.routing.specs.Network.{Meaning}
 use Rattle.measures.specs.Measure.{Measuring}
-use Rattle.check.specs.declared.calls.Call.{Call}
-use Rattle.check.specs.declared.calls.Grant.{Grant}
-use Rattle.check.specs.declared.checks.Check.{Check}
-use Rattle.check.specs.declared.faults.CheckFault.{CheckFault}
-use Rattle.check.specs.Calls.{State, opening, attempt, after, answer_of, answers}
-use Rattle.check.specs.Logs.{request}
-use Rattle.check.specs.States.{network_of, state_of, Does}
+use Rattle.checking.specs.declared.calls.Call.{Call}
+use Rattle.checking.specs.declared.calls.Grant.{Grant}
+use Rattle.checking.specs.declared.checks.Check.{Check}
+use Rattle.checking.specs.declared.faults.CheckFault.{CheckFault}
+use Rattle.checking.specs.Calls.{State, opening, attempt, after, answer_of, answers}
+use Rattle.checking.specs.Logs.{request}
+use Rattle.checking.specs.States.{network_of, state_of, Does}
 
 -- so many calls answered, and the others still to be
 abbrev pub Answered : {S : Type 0} → Measuring S → Meaning → State → List Call → List (Result Grant CheckFault) → ℕ → Type 0

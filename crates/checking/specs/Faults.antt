@@ -3,8 +3,8 @@ use Rattle.std.specs.Prelude.{ℕ}
 use Rattle.routing.specs.declared.denials.Denial.{Denial}
 use Rattle.replay.specs.Faults.{listing_denial}
 use Rattle.leaf.specs.Faults.{leaf_denial}
-use Rattle.check.specs.declared.faults.CheckFault.{CheckFault}
-use Rattle.check.specs.declared.faults.CheckFault.TheVariants.{Listing, NotCheaper, NotFork, Finished, NoSuchArc, Full, NoPlan, Leaf}
+use Rattle.checking.specs.declared.faults.CheckFault.{CheckFault}
+use Rattle.checking.specs.declared.faults.CheckFault.TheVariants.{Listing, NotCheaper, NotFork, Finished, NoSuchArc, Full, NoPlan, Leaf}
 
 abbrev at : ℕ → ℕ → Denial
 at number place = record { number = number; from = 0; to = 0; place = place }

@@ -1,11 +1,11 @@
 -- What a call does, as an answer of a log.
 use Rattle.std.proofs.Common.{◌≡◌, ℕ, Ok, Err, Result, sym, refl, ap, ◌∙◌, arith}
-use Rattle.check.specs.declared.calls.Grant.{Grant}
-use Rattle.check.specs.declared.checks.Check.{Check}
-use Rattle.check.specs.declared.faults.CheckFault.{CheckFault}
-use Rattle.check.specs.Calls.{Attempt, granted, answer_of}
-use Rattle.check.specs.States.{state_of, Does}
-use Rattle.check.proofs.Soundness.{after_granted}
+use Rattle.checking.specs.declared.calls.Grant.{Grant}
+use Rattle.checking.specs.declared.checks.Check.{Check}
+use Rattle.checking.specs.declared.faults.CheckFault.{CheckFault}
+use Rattle.checking.specs.Calls.{Attempt, granted, answer_of}
+use Rattle.checking.specs.States.{state_of, Does}
+use Rattle.checking.proofs.Soundness.{after_granted}
 
 answer_denied : {X : Type 0} (grant : X → Grant) (t : Attempt X) (f : CheckFault) → Err f ≡ answer_of t → Err f ≡ answer_of (granted grant t)
 answer_denied grant (Ok a) f e = absurd (let z : ◌≡◌ {A = ℕ} 0 1 = cc in omega arith)

@@ -1,8 +1,8 @@
 use Rattle.std.proofs.Common.{◌≡◌, ◌≤◌, List, ◌++◌, map, length, take, drop}
-use Rattle.check.specs.Calls.{opening, answers}
-use Rattle.check.specs.Logs.{request}
-use Rattle.check.specs.States.{network_of, state_of}
-use Rattle.check.proofs.running.run_log.Given as goal
+use Rattle.checking.specs.Calls.{opening, answers}
+use Rattle.checking.specs.Logs.{request}
+use Rattle.checking.specs.States.{network_of, state_of}
+use Rattle.checking.proofs.running.run_log.Given as goal
 
 abbrev pub invariant-loop-k : goal.invariant-loop-k
 invariant-loop-k g l =

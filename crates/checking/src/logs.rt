@@ -1,8 +1,8 @@
 // Any call of a check, as a log has it.
 ghost use Rattle.std.specs.Prelude.{◌≡◌};
-ghost use Rattle.check.specs.Calls.{attempt};
-ghost use Rattle.check.specs.Logs.{request};
-ghost use Rattle.check.specs.States.{network_of, state_of, Does};
+ghost use Rattle.checking.specs.Calls.{attempt};
+ghost use Rattle.checking.specs.Logs.{request};
+ghost use Rattle.checking.specs.States.{network_of, state_of, Does};
 
 use crate::calls::{Answer, Call, Grant};
 use crate::checks::Check;

@@ -7,15 +7,15 @@ use Rattle.measures.specs.Measure.{Measuring}
 use Rattle.leaf.specs.Answer.{leaf_answer}
 use Rattle.leaf.specs.Record.{Reads}
 use Rattle.leaf.specs.Rule.{Leaf, Holds}
-use Rattle.check.specs.declared.faults.CheckFault.{CheckFault}
-use Rattle.check.specs.declared.calls.Grant.{Grant}
-use Rattle.check.specs.declared.calls.Grant.TheVariants.{Presented, Forked, Closed, Stands}
-use Rattle.check.specs.declared.calls.Standing.{Standing}
-use Rattle.check.specs.declared.calls.Standing.TheVariants.{Proved}
-use Rattle.check.specs.Calls.{State, opening, Attempt, present, fork, close, standing, Request, presenting, forking, closing, asking, granted, attempt, after, answer_of, answers}
-use Rattle.check.specs.Promise.{Cheapest, Line, lines, Promise}
-use Rattle.check.proofs.Soundness.{Sound, opening_sound, step_sound, proved_true}
-use Rattle.check.proofs.Trees.{Follows, never_withheld}
+use Rattle.checking.specs.declared.faults.CheckFault.{CheckFault}
+use Rattle.checking.specs.declared.calls.Grant.{Grant}
+use Rattle.checking.specs.declared.calls.Grant.TheVariants.{Presented, Forked, Closed, Stands}
+use Rattle.checking.specs.declared.calls.Standing.{Standing}
+use Rattle.checking.specs.declared.calls.Standing.TheVariants.{Proved}
+use Rattle.checking.specs.Calls.{State, opening, Attempt, present, fork, close, standing, Request, presenting, forking, closing, asking, granted, attempt, after, answer_of, answers}
+use Rattle.checking.specs.Promise.{Cheapest, Line, lines, Promise}
+use Rattle.checking.proofs.Soundness.{Sound, opening_sound, step_sound, proved_true}
+use Rattle.checking.proofs.Trees.{Follows, never_withheld}
 
 -- only a question is answered with how far the tree has come
 not_standing : {X : Type 0} (grant : X → Grant) (t : Attempt X) (g : Standing) → ((x : X) → grant x ≡ Stands g → ⊥) → answer_of (granted grant t) ≡ Ok (Stands g) → ⊥

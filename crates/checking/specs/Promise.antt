@@ -8,11 +8,11 @@ use Rattle.measures.specs.Measure.{Measuring}
 use Rattle.leaf.specs.Record.{Reads}
 use Rattle.leaf.specs.Rule.{Leaf, Holds}
 use Rattle.decisions.specs.Decisions.{forbid, force, under}
-use Rattle.check.specs.declared.faults.CheckFault.{CheckFault}
-use Rattle.check.specs.declared.calls.Grant.{Grant}
-use Rattle.check.specs.declared.calls.Grant.TheVariants.{Stands}
-use Rattle.check.specs.declared.calls.Standing.TheVariants.{Proved}
-use Rattle.check.specs.Calls.{Request, presenting, forking, closing, asking, answers, opening}
+use Rattle.checking.specs.declared.faults.CheckFault.{CheckFault}
+use Rattle.checking.specs.declared.calls.Grant.{Grant}
+use Rattle.checking.specs.declared.calls.Grant.TheVariants.{Stands}
+use Rattle.checking.specs.declared.calls.Standing.TheVariants.{Proved}
+use Rattle.checking.specs.Calls.{Request, presenting, forking, closing, asking, answers, opening}
 
 -- some plan costs exactly c, and none costs less
 pub record Cheapest (m : Meaning) (c : ℕ) : Type 0 where

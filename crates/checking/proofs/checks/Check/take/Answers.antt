@@ -1,10 +1,10 @@
 use Rattle.std.proofs.Common.{Err, sym, subst}
-use Rattle.check.specs.declared.calls.Grant.TheVariants.{Presented}
-use Rattle.check.specs.Calls.{attempt, present}
-use Rattle.check.specs.Logs.{request}
-use Rattle.check.specs.States.{network_of, state_of, Does}
-use Rattle.check.proofs.Doing.{does_denied}
-use Rattle.check.proofs.checks.Check.take.Goals as goal
+use Rattle.checking.specs.declared.calls.Grant.TheVariants.{Presented}
+use Rattle.checking.specs.Calls.{attempt, present}
+use Rattle.checking.specs.Logs.{request}
+use Rattle.checking.specs.States.{network_of, state_of, Does}
+use Rattle.checking.proofs.Doing.{does_denied}
+use Rattle.checking.proofs.checks.Check.take.Goals as goal
 
 pub returns-in-Err : goal.returns-in-Err
 returns-in-Err g c =

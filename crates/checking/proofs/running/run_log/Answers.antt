@@ -1,12 +1,12 @@
 use Rattle.std.proofs.Common.{◌≡◌, ◌≤◌, map, length, drop, sym, refl, ap, ◌∙◌, subst, arith, length-set}
-use Rattle.check.specs.Calls.{opening, answers}
-use Rattle.check.specs.Logs.{request}
-use Rattle.check.specs.Promise.{Promise}
-use Rattle.check.specs.States.{network_of, state_of}
-use Rattle.check.proofs.Leaves.{answer_bounds, answer_opens}
-use Rattle.check.proofs.Promises.{promise}
-use Rattle.check.proofs.Feeding.{one_more, all_answered, rest_kept}
-use Rattle.check.proofs.running.run_log.Goals as goal
+use Rattle.checking.specs.Calls.{opening, answers}
+use Rattle.checking.specs.Logs.{request}
+use Rattle.checking.specs.Promise.{Promise}
+use Rattle.checking.specs.States.{network_of, state_of}
+use Rattle.checking.proofs.Leaves.{answer_bounds, answer_opens}
+use Rattle.checking.proofs.Promises.{promise}
+use Rattle.checking.proofs.Feeding.{one_more, all_answered, rest_kept}
+use Rattle.checking.proofs.running.run_log.Goals as goal
 
 pub loop-k-preserved : goal.loop-k-preserved
 loop-k-preserved g c =

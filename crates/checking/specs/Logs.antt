@@ -2,12 +2,12 @@
 use Rattle.std.specs.Prelude.{◌≡◌, ℕ, ◌<◌, ◌≤◌, List, map, length, take, drop, Ok, Err, Result}
 use Rattle.routing.specs.Network.{Meaning}
 use Rattle.measures.specs.Measure.{Measuring}
-use Rattle.check.specs.declared.calls.Call.{Call}
-use Rattle.check.specs.declared.calls.Call.TheVariants.{Present, Fork, Close, Ask}
-use Rattle.check.specs.declared.calls.Grant.{Grant}
-use Rattle.check.specs.declared.faults.CheckFault.{CheckFault}
-use Rattle.check.specs.Calls.{Request, presenting, forking, closing, asking}
-use Rattle.check.specs.Promise.{Promise}
+use Rattle.checking.specs.declared.calls.Call.{Call}
+use Rattle.checking.specs.declared.calls.Call.TheVariants.{Present, Fork, Close, Ask}
+use Rattle.checking.specs.declared.calls.Grant.{Grant}
+use Rattle.checking.specs.declared.faults.CheckFault.{CheckFault}
+use Rattle.checking.specs.Calls.{Request, presenting, forking, closing, asking}
+use Rattle.checking.specs.Promise.{Promise}
 
 abbrev pub request : Call → Request
 request (Present listing) = presenting listing.now

@@ -1,9 +1,9 @@
 -- The state of a check, and how a call goes from one to the next.
 use Rattle.std.specs.Prelude.{◌≡◌, Result}
 use Rattle.decisions.specs.Branches.{kept}
-use Rattle.check.specs.declared.checks.Check.{Check}
-use Rattle.check.specs.declared.faults.CheckFault.{CheckFault}
-use Rattle.check.specs.Calls.{State, Attempt, after, answer_of}
+use Rattle.checking.specs.declared.checks.Check.{Check}
+use Rattle.checking.specs.declared.faults.CheckFault.{CheckFault}
+use Rattle.checking.specs.Calls.{State, Attempt, after, answer_of}
 
 abbrev pub network_of : {N : Type 0} → Check N → N
 network_of c = c.layer.below

@@ -10,12 +10,12 @@ use Rattle.leaf.specs.Answer.{leaf_answer}
 use Rattle.decisions.specs.declared.decision.Decision.{Decision}
 use Rattle.decisions.specs.Decisions.{forbid, decided}
 use Rattle.decisions.specs.Branches.{trimmed, backed_up}
-use Rattle.check.specs.declared.faults.CheckFault.{CheckFault}
-use Rattle.check.specs.declared.faults.CheckFault.TheVariants.{Listing, NotCheaper, NotFork, Finished, NoSuchArc, Full, NoPlan, Leaf}
-use Rattle.check.specs.declared.calls.Standing.{Standing}
-use Rattle.check.specs.declared.calls.Standing.TheVariants.{Proved, Open}
-use Rattle.check.specs.declared.calls.Grant.{Grant}
-use Rattle.check.specs.declared.calls.Grant.TheVariants.{Presented, Forked, Closed, Stands}
+use Rattle.checking.specs.declared.faults.CheckFault.{CheckFault}
+use Rattle.checking.specs.declared.faults.CheckFault.TheVariants.{Listing, NotCheaper, NotFork, Finished, NoSuchArc, Full, NoPlan, Leaf}
+use Rattle.checking.specs.declared.calls.Standing.{Standing}
+use Rattle.checking.specs.declared.calls.Standing.TheVariants.{Proved, Open}
+use Rattle.checking.specs.declared.calls.Grant.{Grant}
+use Rattle.checking.specs.declared.calls.Grant.TheVariants.{Presented, Forked, Closed, Stands}
 
 -- the decisions from the first to the last, the cost of the plan held, if any, and whether the tree is finished
 pub record State : Type 0 where

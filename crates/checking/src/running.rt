@@ -1,5 +1,5 @@
 // A log: a check made over a network, fed with calls, each answered.
-ghost use Rattle.check.specs.Logs.{Logged};
+ghost use Rattle.checking.specs.Logs.{Logged};
 
 use crate::calls::{Answer, Call};
 use crate::checks::Check;

@@ -1,7 +1,7 @@
 // Why a call of the check is denied, with the fault of a listing or a leaf carried whole.
 ghost use Rattle.std.specs.Prelude.{◌≡◌};
-ghost use Rattle.check.specs.declared.faults.CheckFault.TheVariants.{Listing, Leaf};
-ghost use Rattle.check.specs.Faults.{check_denial};
+ghost use Rattle.checking.specs.declared.faults.CheckFault.TheVariants.{Listing, Leaf};
+ghost use Rattle.checking.specs.Faults.{check_denial};
 
 use leaf::faults::LeafFault;
 use replay::faults::ListingFault;
