@@ -6,7 +6,7 @@ use Rattle.worked.proofs.two_stop_cost.Goals as goal
 pub returns : goal.returns
 unfolding little
 returns c = record {
-  value = ap (λ cost. Ok (at_cost cost 1)) (sym c.one-route-cost.ensures);
+  value = ap (λ cost. Ok (at_cost cost 1)) (sym c.one_route_cost.ensures);
   examples = record {
     one_route_costs_12 = refl;
     two_routes_cost_18 = refl;
