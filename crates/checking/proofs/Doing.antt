@@ -1,5 +1,5 @@
 -- What a call does, as an answer of a log.
-use Rattle.std.proofs.Common.{◌≡◌, ℕ, Ok, Err, Result, sym, refl, ap, ◌∙◌, arith}
+use Rattle.std.proofs.Common.{◌≡◌, ℕ, Ok, Err, sym, ap, ◌∙◌, arith}
 use Rattle.checking.specs.declared.calls.Grant.{Grant}
 use Rattle.checking.specs.declared.checks.Check.{Check}
 use Rattle.checking.specs.declared.faults.CheckFault.{CheckFault}

@@ -1,13 +1,13 @@
 -- A log run call by call gives the answers of the rules' check.
-use Rattle.std.proofs.Common.{◌≡◌, ℕ, ◌+◌, ◌<◌, ◌≤◌, List, [], ◌∷◌, ◌++◌, map, length, get_or, take, drop, set, Result, sym, refl, ap, ◌∙◌, subst, ap₂, append_assoc, append-nil, arith, drop-set-lt}
-use Rattle.std.proofs.lemmas.List.{take_more_set, drop_more, drop-drop, drop_all, take_all}
+use Rattle.std.proofs.Common.{◌≡◌, ℕ, ◌+◌, ◌<◌, List, [], ◌∷◌, ◌++◌, map, length, get_or, take, drop, set, Result, sym, refl, ap, ◌∙◌, subst, ap₂, append_assoc, append-nil, arith, drop-set-lt}
+use Rattle.std.proofs.lemmas.List.{take_more_set, drop_more, drop-drop, drop_all}
 use Rattle.routing.specs.Network.{Meaning}
 use Rattle.measures.specs.Measure.{Measuring}
 use Rattle.checking.specs.declared.calls.Call.{Call}
 use Rattle.checking.specs.declared.calls.Grant.{Grant}
 use Rattle.checking.specs.declared.checks.Check.{Check}
 use Rattle.checking.specs.declared.faults.CheckFault.{CheckFault}
-use Rattle.checking.specs.Calls.{State, opening, attempt, after, answer_of, answers}
+use Rattle.checking.specs.Calls.{State, opening, attempt, answers}
 use Rattle.checking.specs.Logs.{request}
 use Rattle.checking.specs.States.{network_of, state_of, Does}
 

@@ -1,5 +1,5 @@
 -- What a leaf's answer says: it bounds every plan, and a leaf whose rule holds is granted.
-use Rattle.std.proofs.Common.{◌≡◌, ℕ, ◌≤◌, List, Ok, refl}
+use Rattle.std.proofs.Common.{◌≡◌, ℕ, ◌≤◌, List, Ok}
 use Rattle.routing.specs.Network.{Meaning, Limits}
 use Rattle.routing.specs.Routes.{Plan, plan_cost}
 use Rattle.measures.specs.Measure.{Measuring, Laws}

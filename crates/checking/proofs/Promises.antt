@@ -1,5 +1,5 @@
 -- The whole promise about logs.
-use Rattle.std.proofs.Common.{◌≡◌, ℕ, ◌≤◌, List, [], ◌∷◌, Ok, Err, Result, sym, refl, ap, ◌∙◌, subst, arith}
+use Rattle.std.proofs.Common.{◌≡◌, ℕ, ◌≤◌, List, [], ◌∷◌, Ok, Err, refl, arith}
 use Rattle.std.specs.List.{AllByRecursion as All}
 use Rattle.routing.specs.Network.{Meaning, Limits}
 use Rattle.routing.specs.Routes.{Plan, plan_cost}
@@ -7,13 +7,12 @@ use Rattle.measures.specs.Measure.{Measuring}
 use Rattle.leaf.specs.Answer.{leaf_answer}
 use Rattle.leaf.specs.Record.{Reads}
 use Rattle.leaf.specs.Rule.{Leaf, Holds}
-use Rattle.checking.specs.declared.faults.CheckFault.{CheckFault}
 use Rattle.checking.specs.declared.calls.Grant.{Grant}
 use Rattle.checking.specs.declared.calls.Grant.TheVariants.{Presented, Forked, Closed, Stands}
 use Rattle.checking.specs.declared.calls.Standing.{Standing}
 use Rattle.checking.specs.declared.calls.Standing.TheVariants.{Proved}
 use Rattle.checking.specs.Calls.{State, opening, Attempt, present, fork, close, standing, Request, presenting, forking, closing, asking, granted, attempt, after, answer_of, answers}
-use Rattle.checking.specs.Promise.{Cheapest, Line, lines, Promise}
+use Rattle.checking.specs.Promise.{Cheapest, lines, Promise}
 use Rattle.checking.proofs.Soundness.{Sound, opening_sound, step_sound, proved_true}
 use Rattle.checking.proofs.Trees.{Follows, never_withheld}
 

@@ -1,5 +1,5 @@
 -- What every state of a check keeps: the plan held is there, and every cheaper plan is open.
-use Rattle.std.proofs.Common.{◌≡◌, ℕ, ◌<◌, ◌≤◌, Bool, true, false, cond, not, ◌||◌, eqb, ltb, leb, List, [], ◌∷◌, ◌++◌, length, Some, None, Ok, Err, MatchBool, Option, Result, sym, refl, ap, ◌∙◌, subst, inl, inr, ⊎_elim, arith}
+use Rattle.std.proofs.Common.{◌≡◌, ℕ, ◌<◌, ◌≤◌, Bool, true, false, cond, not, ltb, List, length, Some, None, Ok, Err, MatchBool, Option, Result, sym, refl, ap, ◌∙◌, subst, inl, ⊎_elim, arith}
 use Rattle.std.proofs.lemmas.Bool.{cases_lt, leb-false, true≢false}
 use Rattle.routing.specs.Network.{Meaning, Limits}
 use Rattle.routing.specs.Routes.{Plan, plan_cost}
@@ -10,16 +10,14 @@ use Rattle.replay.proofs.Plans.{priced_is_plan}
 use Rattle.measures.specs.Measure.{Measuring}
 use Rattle.leaf.specs.declared.faults.LeafFault.{LeafFault}
 use Rattle.leaf.specs.Answer.{leaf_answer}
-use Rattle.decisions.specs.declared.decision.Decision.{Decision}
-use Rattle.decisions.specs.Decisions.{forbid, decided}
-use Rattle.decisions.specs.Branches.{trimmed, backed_up}
+use Rattle.decisions.specs.Decisions.{decided}
+use Rattle.decisions.specs.Branches.{trimmed}
 use Rattle.decisions.specs.Forks.{Open, Ahead}
 use Rattle.decisions.specs.Lawful.{decided_limits}
 use Rattle.decisions.proofs.Parts.{cost_below}
 use Rattle.decisions.proofs.Search.{fork_open, back_up_goes_on}
 use Rattle.checking.specs.declared.faults.CheckFault.{CheckFault}
 use Rattle.checking.specs.declared.calls.Grant.{Grant}
-use Rattle.checking.specs.declared.calls.Grant.TheVariants.{Stands}
 use Rattle.checking.specs.declared.calls.Standing.TheVariants.{Proved}
 use Rattle.checking.specs.declared.faults.CheckFault.TheVariants.{Finished, NoSuchArc, Full}
 use Rattle.checking.specs.Calls.{State, opening, Attempt, no_dearer, holding, hold, present, fork_arc, no_arc, pushed, push, fork_on, fork, next_branch, leaf_closed, close_for, close, standing, standing_for, Request, presenting, forking, closing, asking, granted, attempt, after}

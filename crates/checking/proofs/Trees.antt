@@ -1,5 +1,5 @@
 -- A log that presents a plan and makes the calls of a full tree for its cost: all are granted, and then ask says proved.
-use Rattle.std.proofs.Common.{◌≡◌, ℕ, ◌+◌, ◌<◌, ◌≤◌, Bool, true, false, cond, not, ◌||◌, eqb, ltb, leb, ◌⊎◌, List, [], ◌∷◌, ◌++◌, length, Some, None, Ok, Err, Option, Result, sym, refl, ap, ◌∙◌, subst, ap₂, inl, inr, ⊎_elim, append_assoc, append-nil, arith}
+use Rattle.std.proofs.Common.{◌≡◌, ℕ, ◌+◌, ◌<◌, ◌≤◌, true, false, not, ltb, List, [], ◌∷◌, ◌++◌, length, Some, None, Ok, Err, Option, Result, sym, refl, ap, ◌∙◌, subst, ap₂, ⊎_elim, append_assoc, append-nil, arith}
 use Rattle.std.proofs.lemmas.List.{length_push}
 use Rattle.std.proofs.lemmas.Bool.{cond-true, cond-false, lt-ltb, le-ltb, ne_eqb, le-leb, or_from}
 use Rattle.std.specs.List.{AllByRecursion as All}
@@ -17,7 +17,7 @@ use Rattle.leaf.specs.Record.{Reads}
 use Rattle.leaf.specs.Rule.{Leaf, Holds}
 use Rattle.decisions.specs.declared.decision.Decision.{Decision}
 use Rattle.decisions.specs.Decisions.{forbid, force, under, decided}
-use Rattle.decisions.specs.Branches.{trimmed, turned_last, backed_up}
+use Rattle.decisions.specs.Branches.{trimmed, turned_last}
 use Rattle.decisions.specs.Lawful.{decided_limits, under_limits}
 use Rattle.decisions.proofs.Decided.{decided_push, decided_customers}
 use Rattle.decisions.proofs.Ends.{trimmed_first, trimmed_second, turned_push}
@@ -25,9 +25,8 @@ use Rattle.decisions.proofs.Forks.{fork_splits}
 use Rattle.decisions.proofs.Parts.{plans_below_under}
 use Rattle.checking.specs.declared.faults.CheckFault.{CheckFault}
 use Rattle.checking.specs.declared.calls.Grant.{Grant}
-use Rattle.checking.specs.declared.calls.Grant.TheVariants.{Presented, Forked, Closed, Stands}
-use Rattle.checking.specs.declared.calls.Standing.TheVariants.{Proved}
-use Rattle.checking.specs.Calls.{State, opening, Attempt, no_dearer, holding, hold, present, fork_arc, no_arc, pushed, push, branch, fork_on, fork, next_branch, leaf_closed, close_for, close, standing, standing_for, Request, presenting, forking, closing, asking, granted, attempt, after, answer_of}
+use Rattle.checking.specs.declared.calls.Grant.TheVariants.{Presented, Forked, Closed}
+use Rattle.checking.specs.Calls.{State, opening, Attempt, hold, present, fork_arc, fork_on, fork, next_branch, leaf_closed, Request, presenting, forking, closing, asking, granted, attempt, after, answer_of}
 use Rattle.checking.proofs.Soundness.{after_granted}
 use Rattle.checking.specs.Promise.{Tree, leaf, fork as forkTree, tree_calls, depth, FullTree, Line, Denied, Granted, Idle, Makes, made, idle, call, SaysProved}
 

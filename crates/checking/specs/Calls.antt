@@ -1,5 +1,5 @@
 -- What a check does at each call, from the meanings of its network and of the measure.
-use Rattle.std.specs.Prelude.{◌≡◌, ℕ, Bool, true, false, cond, not, ◌||◌, List, [], ◌∷◌, ◌++◌, length, Some, None, Ok, Err, Option, Result, ◌==◌, nat_le, nat_lt}
+use Rattle.std.specs.Prelude.{ℕ, Bool, true, false, cond, not, ◌||◌, List, [], ◌∷◌, ◌++◌, length, Some, None, Ok, Err, Option, Result, ◌==◌, nat_le, nat_lt}
 use Rattle.routing.specs.Network.{Meaning}
 use Rattle.replay.specs.declared.faults.ListingFault.{ListingFault}
 use Rattle.replay.specs.declared.vans.Priced.{Priced}

@@ -1,5 +1,5 @@
 -- A log of calls run against a check: what is answered and what is left.
-use Rattle.std.specs.Prelude.{◌≡◌, ℕ, ◌<◌, ◌≤◌, List, map, length, take, drop, Ok, Err, Result}
+use Rattle.std.specs.Prelude.{◌≡◌, ◌<◌, ◌≤◌, List, map, length, take, drop, Ok, Err, Result}
 use Rattle.routing.specs.Network.{Meaning}
 use Rattle.measures.specs.Measure.{Measuring}
 use Rattle.checking.specs.declared.calls.Call.{Call}

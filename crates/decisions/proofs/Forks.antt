@@ -1,14 +1,14 @@
 -- Each plan goes on under one side or the other of a fork.
-use Rattle.std.proofs.Common.{◌≡◌, ℕ, ◌<◌, ◌≤◌, Bool, true, false, not, ◌&&◌, ◌||◌, eqb, ◌⊎◌, List, [], ◌∷◌, ◌++◌, ap, ◌∙◌, inl, inr, ⊎_elim, arith}
+use Rattle.std.proofs.Common.{◌≡◌, ℕ, ◌≤◌, true, false, ◌⊎◌, List, [], ◌∷◌, ◌++◌, ap, ◌∙◌, inl, inr, ⊎_elim, arith}
 use Rattle.std.proofs.lemmas.Bool.{cases_Bool, cases_lt, cond-false, and_parts, and_from, or_parts, or_cases, not-true, both_ways, eq-eqb, eqb-true, eqb-false}
 use Rattle.std.specs.List.{AllByRecursion as All}
 use Rattle.routing.specs.Network.{Meaning}
-use Rattle.routing.specs.Routes.{Drive, OnTime, Route, Schedule, Drivable, Plan}
+use Rattle.routing.specs.Routes.{Drive, OnTime, Drivable, Plan}
 use Rattle.routing.specs.Routes.OnTime.{home, stop}
 use Rattle.decisions.specs.declared.decision.Decision.{Decision}
-use Rattle.decisions.specs.Decisions.{forbid, force, own, rivals, removes, under, decided}
-use Rattle.decisions.specs.Arcs.{arcs_from, route_arcs, plan_arcs, same_arc, uses}
-use Rattle.decisions.proofs.Once.{same_is, alone, count_starts, count_ends, visited_once}
+use Rattle.decisions.specs.Decisions.{forbid, force, own, removes, under, decided}
+use Rattle.decisions.specs.Arcs.{arcs_from, route_arcs, plan_arcs, uses}
+use Rattle.decisions.proofs.Once.{alone, count_starts, count_ends, visited_once}
 
 -- no arc of these is removed
 abbrev pub Spared : Decision → List (ℕ × ℕ) → Type 0

@@ -1,14 +1,14 @@
 -- A plan of a part of a network is a plan of the network, at the same cost.
-use Rattle.std.proofs.Common.{◌≡◌, ℕ, ◌+◌, ◌≤◌, List, [], ◌∷◌, Some, sym, refl, ap, ◌∙◌, ap₂, arith}
+use Rattle.std.proofs.Common.{◌≡◌, ℕ, ◌+◌, List, [], ◌∷◌, sym, refl, ap, ◌∙◌, ap₂, arith}
 use Rattle.std.proofs.ByRecursion.{All-weaker}
 use Rattle.std.specs.List.{AllByRecursion as All}
 use Rattle.routing.specs.Network.{Meaning}
-use Rattle.routing.specs.Routes.{Drive, OnTime, Schedule, Customer, Route, Drivable, Plan, place_load, arc_cost, cost_from, route_cost, route_load, plan_cost}
+use Rattle.routing.specs.Routes.{Drive, OnTime, Schedule, Customer, Drivable, Plan, place_load, arc_cost, cost_from, route_load, plan_cost}
 use Rattle.routing.specs.Routes.OnTime.{home, stop}
 use Rattle.decisions.specs.declared.decision.Decision.{Decision}
 use Rattle.decisions.specs.Decisions.{removes, under, decided}
 use Rattle.decisions.specs.Lawful.{left}
-use Rattle.decisions.specs.Parts.{Part, PlanBelow, PlansBelow}
+use Rattle.decisions.specs.Parts.{Part, PlansBelow}
 
 module _ (n m : Meaning) (part : Part n m) where
   drive_below : {i j : ℕ} → Drive n i j → Drive m i j

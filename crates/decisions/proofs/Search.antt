@@ -1,5 +1,5 @@
 -- A search that forks and backs up comes to every plan.
-use Rattle.std.proofs.Common.{◌≡◌, ℕ, Bool, true, false, ltb, ◌⊎◌, List, [], ◌∷◌, ◌++◌, length, MatchBool, inl, inr, ⊎_elim, arith}
+use Rattle.std.proofs.Common.{◌≡◌, ℕ, Bool, true, false, ltb, List, [], ◌∷◌, ◌++◌, length, MatchBool, inl, inr, ⊎_elim, arith}
 use Rattle.std.proofs.lemmas.Bool.{lt-ltb, false≢true}
 use Rattle.routing.specs.Network.{Meaning}
 use Rattle.routing.specs.Routes.{Plan}

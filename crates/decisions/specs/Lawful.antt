@@ -1,7 +1,7 @@
 -- What is left of a network under decisions keeps the limits.
 use Rattle.std.specs.Prelude.{◌≡◌, ℕ, Bool, true, false, cond, List, [], ◌∷◌, Some, None, Option}
 use Rattle.std.proofs.Common.{arith}
-use Rattle.routing.specs.Network.{Meaning, Limits, ArcLimits}
+use Rattle.routing.specs.Network.{Meaning, Limits}
 use Rattle.decisions.specs.declared.decision.Decision.{Decision}
 use Rattle.decisions.specs.Decisions.{under, decided, removes}
 

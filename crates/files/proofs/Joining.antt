@@ -1,5 +1,5 @@
 -- From what the readers and the replay promise to what two files are answered.
-use Rattle.std.proofs.Common.{◌≡◌, ℕ, ◌+◌, ◌*◌, ◌≤◌, Bool, true, false, cond, ◌||◌, ltb, List, length, Ok, Err, Option, Result, sym, refl, ap, ◌∙◌, subst, mul-le-mul, arith}
+use Rattle.std.proofs.Common.{◌≡◌, ℕ, ◌+◌, ◌*◌, ◌≤◌, Bool, true, false, cond, ◌||◌, ltb, List, length, Ok, Err, Option, Result, refl, ap, subst, mul-le-mul, arith}
 use Rattle.routing.specs.declared.cells.Head.{Head}
 use Rattle.routing.specs.declared.cells.Place.{Place}
 use Rattle.routing.specs.declared.cells.Road.{Road}
@@ -15,7 +15,7 @@ use Rattle.texts.specs.Cases.{Case, Granted, side, case_judged, fits_tables, cas
 use Rattle.texts.specs.Plans.{plan_judged, fits_listing, plan_answer}
 use Rattle.texts.specs.Written.{CasesAsWritten, PlanText, PlansAsWritten}
 use Rattle.files.specs.declared.faults.FileFault.TheVariants.{Listing}
-use Rattle.files.specs.Pricing.{CaseNetwork, BothRead, PricedPlan, FilesPriced, listing_answer}
+use Rattle.files.specs.Pricing.{CaseNetwork, FilesPriced, listing_answer}
 
 -- a result that was granted although a table might have been short
 not_short : {X : Type 0} (b : Bool) (x y : X) → cond b (Err ShortTable) (Ok x) ≡ Ok y → ◌≡◌ {A = Result X TextFault} (Ok x) (Ok y)

@@ -1,6 +1,6 @@
 -- A list keeps the form exactly where it is the listing of some routes.
-use Rattle.std.proofs.Common.{◌≡◌, ℕ, ◌+◌, ◌-◌, ◌<◌, ◌≤◌, Bool, true, false, cond, not, ◌&&◌, ◌||◌, eqb, ltb, List, [], ◌∷◌, ◌++◌, length, Some, None, Option, sym, refl, ap, ◌∙◌, subst, ap₂, ⊎_elim, append_assoc, arith}
-use Rattle.std.proofs.lemmas.Bool.{cases_eq, both_ways, and_from, cond-true, cond-false, eq-eqb, ne_eqb, ltb-false, le-ltb, or_parts, or_from, and_left, and_right, and_cases}
+use Rattle.std.proofs.Common.{◌≡◌, ℕ, ◌+◌, ◌≤◌, Bool, true, false, cond, not, eqb, List, [], ◌∷◌, ◌++◌, length, Some, None, Option, sym, refl, ap, ◌∙◌, subst, ap₂, ⊎_elim, append_assoc, arith}
+use Rattle.std.proofs.lemmas.Bool.{cases_eq, both_ways, and_from, cond-false, eq-eqb, ne_eqb, ltb-false, le-ltb, or_parts, or_from, and_left}
 use Rattle.std.specs.List.{AllByRecursion as All}
 use Rattle.replay.specs.Listing.{written, breaks, misplaced}
 

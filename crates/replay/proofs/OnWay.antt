@@ -1,15 +1,15 @@
 -- Driving as early as possible succeeds exactly where some schedule does.
-use Rattle.std.proofs.Common.{◌≡◌, ℕ, ◌+◌, ◌<◌, ◌≤◌, max, Bool, true, false, cond, eqb, ltb, List, [], ◌∷◌, ◌++◌, is_some, Some, None, Ok, Err, Option, Result, unwrap_or, sym, refl, ap, ◌∙◌, ap₂, arith}
-use Rattle.std.proofs.lemmas.Bool.{cond-true, cond-false, ne_eqb, ltb-false}
+use Rattle.std.proofs.Common.{◌≡◌, ℕ, ◌+◌, ◌≤◌, max, Bool, true, false, cond, List, [], ◌∷◌, ◌++◌, is_some, Some, None, Ok, Err, Option, Result, sym, refl, ap, ◌∙◌, ap₂, arith}
+use Rattle.std.proofs.lemmas.Bool.{cond-false, ne_eqb, ltb-false}
 use Rattle.std.specs.List.{AllByRecursion as All}
 use Rattle.routing.specs.declared.cells.Place.{Place}
 use Rattle.routing.specs.Network.{Meaning, Limits}
-use Rattle.routing.specs.Routes.{Drive, OnTime, route_load, cost_from, arc_cost, place_load}
+use Rattle.routing.specs.Routes.{OnTime, route_load, cost_from, arc_cost, place_load}
 use Rattle.routing.specs.Routes.OnTime.{home, stop}
 use Rattle.replay.specs.declared.faults.ListingFault.{ListingFault}
 use Rattle.replay.specs.declared.vans.Van.{Van}
 use Rattle.replay.specs.declared.vans.Priced.{Priced}
-use Rattle.replay.specs.Drive.{stepped, arrived, timed, served, followed, driven, ready_van}
+use Rattle.replay.specs.Drive.{arrived, served, followed, driven, ready_van}
 use Rattle.replay.proofs.Steps.{stepped_served}
 
 abbrev pub van : ℕ → ℕ → ℕ → ℕ → ℕ → Van

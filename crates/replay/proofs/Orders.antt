@@ -1,5 +1,5 @@
 -- The answer due to a listing, by how far it comes.
-use Rattle.std.proofs.Common.{◌≡◌, ℕ, ◌+◌, ◌≤◌, false, List, [], length, Ok, Err, Result, sym, refl, ap, ◌∙◌, arith}
+use Rattle.std.proofs.Common.{◌≡◌, ℕ, ◌≤◌, false, List, [], length, Ok, Err, Result, sym, ap, ◌∙◌, arith}
 use Rattle.routing.specs.Network.{Meaning, Limits}
 use Rattle.replay.specs.declared.faults.ListingFault.{ListingFault}
 use Rattle.replay.specs.declared.faults.ListingFault.TheVariants.{Misplaced, Repeated, Missing}

@@ -1,11 +1,11 @@
 -- A listing is priced exactly when it is one of a plan.
-use Rattle.std.proofs.Common.{◌≡◌, ℕ, ◌+◌, ◌<◌, ◌≤◌, Bool, true, false, cond, ◌||◌, ltb, List, [], ◌∷◌, ◌++◌, length, Some, None, Ok, Err, Option, Result, sym, refl, ap, ◌∙◌, subst, ap₂, ⊎_elim, arith, length-append}
+use Rattle.std.proofs.Common.{◌≡◌, ℕ, ◌+◌, ◌≤◌, Bool, true, false, cond, ◌||◌, ltb, List, [], ◌∷◌, ◌++◌, length, Some, None, Ok, Err, Option, Result, sym, refl, ap, ◌∙◌, ap₂, ⊎_elim, arith, length-append}
 use Rattle.std.proofs.ByRecursion.{All-weaker, All-append}
 use Rattle.std.proofs.lemmas.Bool.{cases_lt, cond-false, le-ltb, ltb-false, or_from, or_parts}
 use Rattle.std.specs.List.{AllByRecursion as All}
 use Rattle.routing.specs.declared.cells.Place.{Place}
 use Rattle.routing.specs.Network.{Meaning, Limits}
-use Rattle.routing.specs.Routes.{Route, Schedule, Drivable, Plan, Customer, count, visits, total, route_load, route_cost, plan_cost}
+use Rattle.routing.specs.Routes.{Schedule, Drivable, Plan, count, visits, route_load, route_cost, plan_cost}
 use Rattle.routing.proofs.Counts.{count_append, length_once}
 use Rattle.replay.specs.declared.faults.ListingFault.{ListingFault}
 use Rattle.replay.specs.declared.faults.ListingFault.TheVariants.{Misplaced, Repeated, Missing}
@@ -14,8 +14,8 @@ use Rattle.replay.specs.Answer.{price_answer, form_answer, once_answer, fleet_an
 use Rattle.replay.specs.Drive.{driven, drive_answer, drive_from, ready_van}
 use Rattle.replay.specs.Listing.{written, misplaced, repeated, missing}
 use Rattle.replay.specs.Prices.{Prices, price_of}
-use Rattle.replay.proofs.Formed.{In, Stops, Whole, formed, fits, written_cons}
-use Rattle.replay.proofs.OnWay.{van, drives, homed, known}
+use Rattle.replay.proofs.Formed.{In, Stops, formed, fits, written_cons}
+use Rattle.replay.proofs.OnWay.{drives, homed, known}
 use Rattle.replay.proofs.Visits.{at_most_once, never_repeated, none_missing, never_missing, count_written, count_none}
 
 -- from the depot on, with so much cost and so many routes behind it

@@ -1,11 +1,11 @@
 -- A listing of routes visits every customer once exactly where nothing is found repeated or missing.
-use Rattle.std.proofs.Common.{◌≡◌, ℕ, zero, suc, ◌+◌, ◌<◌, ◌≤◌, Bool, true, false, cond, ◌&&◌, eqb, ltb, List, [], ◌∷◌, ◌++◌, Some, None, Option, sym, refl, ap, ◌∙◌, subst, ⊎_elim, arith}
-use Rattle.std.proofs.lemmas.Bool.{cases_eq, cases_lt, cond-true, cond-false, eq-eqb, ne_eqb, eqb-false, ltb-false, lt-ltb, le-ltb, and_cases, and_right}
+use Rattle.std.proofs.Common.{◌≡◌, ℕ, zero, suc, ◌+◌, ◌<◌, ◌≤◌, false, ◌&&◌, ltb, List, [], ◌∷◌, ◌++◌, None, sym, refl, ap, ◌∙◌, ⊎_elim, arith}
+use Rattle.std.proofs.lemmas.Bool.{cases_eq, cases_lt, cond-false, ne_eqb, eqb-false, ltb-false, le-ltb, and_cases, and_right}
 use Rattle.std.specs.List.{AllByRecursion as All}
 use Rattle.routing.specs.Routes.{count, visits}
 use Rattle.routing.proofs.Counts.{count_append, count_same, count_other, count_push_same, count_push_other}
 use Rattle.replay.specs.Listing.{written, repeated, missing}
-use Rattle.replay.proofs.Formed.{unfound, In, Stops}
+use Rattle.replay.proofs.Formed.{unfound}
 
 -- nothing is repeated: every customer stands at most once, before and here
 pub at_most_once : (before : List ℕ) (k : ℕ) (l : List ℕ) → repeated before k l ≡ None → (c : ℕ) → 1 ≤ c → count c before ≤ 1 → count c before + count c l ≤ 1

@@ -1,5 +1,5 @@
 -- The depot is a place of every network.
-use Rattle.std.proofs.Common.{◌≡◌, ℕ, is_some, None, sym, ap, ◌∙◌, arith}
+use Rattle.std.proofs.Common.{◌≡◌, is_some, None, sym, ap, ◌∙◌, arith}
 use Rattle.std.proofs.lemmas.Bool.{true≢false}
 use Rattle.routing.specs.Network.{Meaning, Limits}
 

@@ -4,7 +4,6 @@ use mathlib.Core.HLevel.{is_prop→PathP}
 use native.Mathlib.Bridge.{le_prop}
 use Rattle.routing.specs.declared.cells.Place.{Place}
 use Rattle.routing.specs.declared.cells.Road.{Road}
-use Rattle.routing.specs.declared.cells.Head.{Head}
 
 pub same_place : (p q : Place) → p.load ≡ q.load → p.opening ≡ q.opening → p.closing ≡ q.closing → p.service ≡ q.service → p ≡ q
 same_place p q a b c d = λ i. record {

@@ -1,5 +1,5 @@
 -- Whatever the tables hold, a table network keeps the limits.
-use Rattle.std.specs.Prelude.{◌≡◌, ℕ, zero, suc, ◌+◌, ◌*◌, ◌<◌, ◌≤◌, Bool, true, false, cond, ◌&&◌, List, [], ◌∷◌, length, is_some, Some, None, Option, nat_le, refl}
+use Rattle.std.specs.Prelude.{◌≡◌, ℕ, zero, suc, ◌+◌, ◌*◌, ◌<◌, ◌≤◌, Bool, true, false, cond, List, [], ◌∷◌, length, is_some, Some, None, Option, nat_le, refl}
 use Rattle.std.proofs.Common.{sym, ap, ◌∙◌, arith}
 use Rattle.std.proofs.lemmas.Bool.{cond-true, cond-false, le-leb, lt-leb, leb-true, ne_eqb, eqb-false, not-true, and_parts}
 use Rattle.std.specs.List.{slice_get}
@@ -7,8 +7,8 @@ use Rattle.std.specs.Option.{unwrap_or}
 use Rattle.routing.specs.declared.cells.Place.{Place}
 use Rattle.routing.specs.declared.cells.Road.{Road}
 use Rattle.routing.specs.declared.cells.Head.{Head}
-use Rattle.routing.specs.Network.{Meaning, Limits, ArcLimits}
-use Rattle.routing.specs.Tables.{table_meaning, table_place, table_arc, arc_of, depot_of, unladen}
+use Rattle.routing.specs.Network.{Limits}
+use Rattle.routing.specs.Tables.{table_meaning, table_place, arc_of, depot_of, unladen}
 
 nth_some : {X : Type 0} (xs : List X) (i : ℕ) → i < length xs → is_some (slice_get xs i) ≡ true
 nth_some [] i h = absurd (omega arith)

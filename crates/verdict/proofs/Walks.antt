@@ -1,5 +1,5 @@
 -- A walk through a tree's records keeps what every state of a check keeps, so a proved verdict is true.
-use Rattle.std.proofs.Common.{◌≡◌, ℕ, zero, suc, ◌+◌, ◌≤◌, List, Some, None, Ok, Err, Option, Result, sym, refl, ap, ◌∙◌, subst, arith}
+use Rattle.std.proofs.Common.{◌≡◌, ℕ, zero, suc, ◌+◌, List, Some, None, Ok, Err, Option, Result, refl, ◌∙◌, subst, arith}
 use Rattle.routing.specs.Network.{Meaning, Limits}
 use Rattle.replay.specs.declared.vans.Priced.{Priced}
 use Rattle.measures.specs.Measure.{Measuring, Laws}
@@ -17,10 +17,8 @@ use Rattle.checking.specs.Calls.{State, Attempt, opening, present, standing, pre
 use Rattle.checking.specs.Promise.{Cheapest}
 use Rattle.checking.proofs.Soundness.{Sound, opening_sound, step_sound, proved_true, after_granted}
 use Rattle.checking.proofs.Leaves.{answer_bounds}
-use Rattle.trees.specs.declared.faults.TreeFault.{TreeFault}
 use Rattle.trees.specs.declared.head.Kind.{Kind}
 use Rattle.trees.specs.declared.head.Kind.TheVariants.{Time, Load, TimeLoad}
-use Rattle.trees.specs.declared.head.TreeHead.{TreeHead}
 use Rattle.trees.specs.Tree.{tree_answer, record_answer}
 use Rattle.verdict.specs.declared.faults.JudgeFault.{JudgeFault}
 use Rattle.verdict.specs.Judging.{presented, tree_read, walk_by, judged}

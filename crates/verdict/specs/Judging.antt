@@ -13,7 +13,6 @@ use Rattle.measures.specs.Load.{load_measuring}
 use Rattle.measures.specs.Pair.{pair_measuring}
 use Rattle.checking.specs.declared.calls.Standing.{Standing}
 use Rattle.checking.specs.declared.calls.Standing.TheVariants.{Proved}
-use Rattle.checking.specs.declared.faults.CheckFault.{CheckFault}
 use Rattle.checking.specs.Calls.{State, Attempt, opening, present, standing}
 use Rattle.checking.specs.Promise.{Cheapest}
 use Rattle.trees.specs.declared.faults.TreeFault.{TreeFault}

@@ -1,4 +1,4 @@
-use Rattle.std.proofs.Common.{◌≡◌, ◌≤◌, map, length, drop, sym, refl, ap, ◌∙◌, subst, arith, length-set}
+use Rattle.std.proofs.Common.{◌≡◌, map, length, drop, sym, ap, ◌∙◌, subst, arith, length-set}
 use Rattle.checking.specs.Calls.{opening, answers}
 use Rattle.checking.specs.Logs.{request}
 use Rattle.checking.specs.Promise.{Promise}

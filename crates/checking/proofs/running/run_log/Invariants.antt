@@ -1,4 +1,4 @@
-use Rattle.std.proofs.Common.{◌≡◌, ◌≤◌, List, ◌++◌, map, length, take, drop}
+use Rattle.std.proofs.Common.{◌≡◌, ◌≤◌, ◌++◌, map, length, take, drop}
 use Rattle.checking.specs.Calls.{opening, answers}
 use Rattle.checking.specs.Logs.{request}
 use Rattle.checking.specs.States.{network_of, state_of}

@@ -1,7 +1,6 @@
-use Rattle.std.proofs.Common.{◌≡◌, ◌-◌, List, length, take, Ok, Err, sym, refl, ap, ◌∙◌, subst, arith}
+use Rattle.std.proofs.Common.{◌≡◌, ◌-◌, take, Ok, Err, sym, refl, ap, ◌∙◌, subst, arith}
 use Rattle.std.proofs.lemmas.Result.{err_from_is_err_and}
 use Rattle.routing.specs.Tables.{table_meaning}
-use Rattle.texts.specs.Cases.{Granted}
 use Rattle.texts.specs.Plans.{plan_answer}
 use Rattle.files.specs.Pricing.{FilesPriced, CaseNetwork}
 use Rattle.files.proofs.Joining.{network_of, enough, denied, granted}

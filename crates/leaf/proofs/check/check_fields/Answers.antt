@@ -1,12 +1,10 @@
-use Rattle.std.proofs.Common.{◌≡◌, ℕ, ◌+◌, ◌*◌, ◌^◌, ◌<◌, ◌≤◌, List, map, length, Ok, Err, Result, sym, ap, ◌∙◌, subst, ap₂, mul_comm, arith, w64, to_z, of_z, rules}
+use Rattle.std.proofs.Common.{◌≡◌, ℕ, ◌+◌, ◌*◌, ◌≤◌, List, length, Ok, Err, sym, ap, ◌∙◌, ap₂, mul_comm, arith, w64, to_z, of_z}
 use Rattle.std.proofs.lemmas.Result.{err_from_is_err_and}
 use Rattle.std.proofs.lemmas.Int.{to_z-of_z}
 use Rattle.std.proofs.lemmas.Bool.{cond-true, and_parts, eqb-true}
-use Rattle.std.specs.List.{range_with_len}
 use Rattle.measures.specs.Measure.{Measuring}
 use Rattle.leaf.specs.Answer.{rule_answer}
 use Rattle.leaf.specs.Fields.{after, read_amount, read_entry, read_each}
-use Rattle.leaf.specs.Held.{decoded, picked}
 use Rattle.leaf.specs.Record.{entries_at, entry_size, entry_count}
 use Rattle.leaf.proofs.Picked.{each_readable}
 use Rattle.leaf.proofs.Products.{fits_small}

@@ -1,9 +1,8 @@
-use Rattle.std.proofs.Common.{◌≡◌, ◌+◌, ◌*◌, Ok, Err, Result, sym, ap, ◌∙◌, ap₂, arith}
+use Rattle.std.proofs.Common.{Err, ap, ◌∙◌, ap₂}
 use Rattle.std.proofs.lemmas.Result.{err_from_is_err_and}
 use Rattle.leaf.specs.Answer.{entries_answer, depot_answer, bound_answer}
 use Rattle.leaf.specs.Fields.{after}
 use Rattle.leaf.specs.Held.{leaf_of}
-use Rattle.leaf.specs.Record.{entry_size}
 use Rattle.leaf.proofs.check.check_rule.Goals as goal
 
 pub check_entries-requires : goal.check_entries-requires

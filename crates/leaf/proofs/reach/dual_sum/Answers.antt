@@ -1,9 +1,8 @@
-use Rattle.std.proofs.Common.{◌≡◌, ◌≤◌, get_or, drop, ℤ, pos, ◌+ℤ◌, nat_abs, sym, ap, ◌∙◌, arith}
+use Rattle.std.proofs.Common.{◌≤◌, pos, nat_abs, arith}
 use Rattle.std.proofs.ByRecursion.{All-get_or}
 use Rattle.std.proofs.lemmas.List.{at_drop_more, at_drop_all}
 use Rattle.std.proofs.lemmas.Int.{ints}
 use Rattle.leaf.specs.Rule.{sum_z}
-use Rattle.leaf.proofs.Products.{fits_small}
 use Rattle.leaf.proofs.reach.dual_sum.Goals as goal
 
 pub loop-dual-init : goal.loop-dual-init

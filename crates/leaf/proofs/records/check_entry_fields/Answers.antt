@@ -1,9 +1,8 @@
-use Rattle.std.proofs.Common.{◌≡◌, ℕ, ◌+◌, ◌*◌, ◌<◌, ◌≤◌, map, length, Ok, sym, ap, ◌∙◌, ⊎_elim, mul-le-mul_left, arith}
+use Rattle.std.proofs.Common.{ℕ, ◌+◌, ◌*◌, ◌<◌, ◌≤◌, length, Ok, sym, ap, ◌∙◌, ⊎_elim, mul-le-mul_left, arith}
 use Rattle.std.proofs.lemmas.Result.{err_from_is_err_and}
 use Rattle.std.proofs.lemmas.Bool.{cases_eq}
 use Rattle.leaf.specs.Fields.{read_entry}
-use Rattle.leaf.specs.Held.{decoded, picked}
-use Rattle.leaf.specs.Record.{entry_size}
+use Rattle.leaf.specs.Held.{decoded}
 use Rattle.leaf.specs.Stored.{stored}
 use Rattle.leaf.proofs.Picked.{entry_stored, each_stored}
 use Rattle.leaf.proofs.Reading.{each_broken}

@@ -1,4 +1,4 @@
-use Rattle.std.proofs.Common.{◌≡◌, ◌^◌, ◌<◌, length, Err, sym, ap, ◌∙◌, arith, rules}
+use Rattle.std.proofs.Common.{◌^◌, ◌<◌, length, Err, sym, ap, ◌∙◌, arith, rules}
 use Rattle.leaf.specs.declared.faults.LeafFault.TheVariants.{Entry}
 use Rattle.leaf.specs.Held.{leaf_of}
 use Rattle.leaf.proofs.Firsts.{none_first, some_first, found_low}

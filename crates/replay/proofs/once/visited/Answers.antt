@@ -1,5 +1,4 @@
 use Rattle.std.proofs.Common.{◌≡◌, ℕ, ◌+◌, ◌<◌, ◌≤◌, Bool, true, false, ◌&&◌, ltb, List, [], ◌∷◌, ◌++◌, length, get_or, take, drop, set, sym, refl, ap, ◌∙◌, ⊎_elim, arith, length-set, get_or-set_other, get_or-set_same, rules}
-use lib.ListN.{length-replicate}
 use Rattle.std.proofs.lemmas.List.{at_drop_more, at_drop_all, take_more, take_all, get_or-replicate}
 use Rattle.std.proofs.lemmas.Bool.{cond-true, cond-false, and_left, lt-ltb, le-ltb, cases_eq, cases_lt}
 use Rattle.routing.specs.Routes.{count}

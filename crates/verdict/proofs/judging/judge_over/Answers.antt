@@ -1,7 +1,7 @@
-use Rattle.std.proofs.Common.{◌≡◌, ◌-◌, take, Ok, sym, refl, ap, ◌∙◌, arith}
+use Rattle.std.proofs.Common.{◌-◌, take, Ok, sym, refl, ap, ◌∙◌, arith}
 use Rattle.routing.specs.Tables.{table_meaning}
 use Rattle.texts.specs.Plans.{plan_judged, plan_answer}
-use Rattle.files.proofs.Joining.{network_of, enough, listed}
+use Rattle.files.proofs.Joining.{network_of, listed}
 use Rattle.verdict.proofs.Verdicts.{both_read}
 use Rattle.verdict.proofs.judging.judge_over.Goals as goal
 

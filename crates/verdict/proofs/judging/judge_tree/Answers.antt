@@ -1,4 +1,4 @@
-use Rattle.std.proofs.Common.{◌≡◌, Ok, sym, ap, ◌∙◌}
+use Rattle.std.proofs.Common.{Ok, sym, ap, ◌∙◌}
 use Rattle.verdict.proofs.Verdicts.{verdict_is}
 use Rattle.verdict.proofs.Walks.{judged_true}
 use Rattle.verdict.proofs.judging.judge_tree.Goals as goal

@@ -1,4 +1,4 @@
-use Rattle.std.proofs.Common.{◌≡◌, ◌≤◌, ltb, length, sym, ap, ◌∙◌, arith}
+use Rattle.std.proofs.Common.{ltb, length, sym, ap, ◌∙◌, arith}
 use Rattle.std.proofs.lemmas.List.{length-take-le}
 use Rattle.decisions.specs.Branches.{kept, turned_last, trimmed}
 use Rattle.decisions.proofs.Ends.{length_turned}

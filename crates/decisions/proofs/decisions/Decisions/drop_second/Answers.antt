@@ -1,4 +1,4 @@
-use Rattle.std.proofs.Common.{◌≡◌, length, sym, ap, ◌∙◌, arith}
+use Rattle.std.proofs.Common.{length, sym, ap, ◌∙◌, arith}
 use Rattle.decisions.specs.Branches.{kept, trimmed}
 use Rattle.decisions.proofs.Ends.{trimmed_on, trimmed_done, shorter}
 use Rattle.decisions.proofs.decisions.Decisions.drop_second.Goals as goal

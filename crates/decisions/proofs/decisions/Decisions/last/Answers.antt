@@ -1,4 +1,4 @@
-use Rattle.std.proofs.Common.{◌≡◌, ◌-◌, ◌≤◌, length, get_or, take, sym, ap, ◌∙◌, arith}
+use Rattle.std.proofs.Common.{◌-◌, ◌≤◌, get_or, take, sym, ap, ◌∙◌, arith}
 use Rattle.decisions.specs.Decisions.{forbid}
 use Rattle.decisions.specs.Branches.{last_of}
 use Rattle.decisions.proofs.Ends.{last_push, front_last}

@@ -1,6 +1,6 @@
-use Rattle.std.proofs.Common.{◌≡◌, Bool, ltb, List, length, sym, refl, subst}
+use Rattle.std.proofs.Common.{Bool, ltb, List, length, sym, refl, subst}
 use Rattle.decisions.specs.declared.decision.Decision.{Decision}
-use Rattle.decisions.specs.Branches.{kept, trimmed, backed_up}
+use Rattle.decisions.specs.Branches.{kept, trimmed}
 use Rattle.decisions.specs.Forks.{GoesOn}
 use Rattle.decisions.proofs.Search.{back_up_goes_on}
 use Rattle.decisions.proofs.layer.DecisionLayer.back_up.Goals as goal
