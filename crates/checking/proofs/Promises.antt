@@ -1,6 +1,6 @@
 -- The whole promise about logs.
 use Rattle.std.proofs.Common.{◌≡◌, ℕ, ◌≤◌, List, [], ◌∷◌, Ok, Err, refl, arith}
-use Rattle.std.specs.List.{AllByRecursion as All}
+use Rattle.std.specs.List.{AllByRecursion}
 use Rattle.routing.specs.Network.{Meaning, Limits}
 use Rattle.routing.specs.Routes.{Plan, plan_cost}
 use Rattle.measures.specs.Measure.{Measuring}
@@ -31,7 +31,7 @@ module _ {S : Type 0} (μ : Measuring S) (m : Meaning) (lawful : Limits m) (boun
       absurd (not_standing (λ _. Closed) (close μ m s bytes) (Proved c) (λ x d. let z : ◌≡◌ {A = ℕ} 0 1 = cc in omega arith) e)
   true_answer s sound asking c e = proved_true m s c sound (let same : standing s ≡ Proved c = cc in same)
 
-  true_answers : (s : State) → Sound m s → (calls : List Request) → All (λ a. (c : ℕ) → a ≡ Ok (Stands (Proved c)) → Cheapest m c) (answers μ m s calls)
+  true_answers : (s : State) → Sound m s → (calls : List Request) → AllByRecursion (λ a. (c : ℕ) → a ≡ Ok (Stands (Proved c)) → Cheapest m c) (answers μ m s calls)
   true_answers s sound [] = tt
   true_answers s sound (r ∷ calls) = (true_answer s sound r, true_answers (after s (attempt μ m s r)) (step_sound m lawful μ bounds s r sound) calls)
 

@@ -2,7 +2,7 @@
 use Rattle.std.proofs.Common.{◌≡◌, ℕ, ◌+◌, ◌<◌, ◌≤◌, true, false, not, ltb, List, [], ◌∷◌, ◌++◌, length, Some, None, Ok, Err, Option, Result, sym, refl, ap, ◌∙◌, subst, ap₂, ⊎_elim, append_assoc, append-nil, arith}
 use Rattle.std.proofs.lemmas.List.{length_push}
 use Rattle.std.proofs.lemmas.Bool.{cond-true, cond-false, lt-ltb, le-ltb, ne_eqb, le-leb, or_from}
-use Rattle.std.specs.List.{AllByRecursion as All}
+use Rattle.std.specs.List.{AllByRecursion}
 use Rattle.routing.specs.Network.{Meaning, Limits}
 use Rattle.routing.specs.Routes.{Plan, plan_cost}
 use Rattle.replay.specs.declared.faults.ListingFault.{ListingFault}
@@ -113,12 +113,12 @@ module _ {S : Type 0} (μ : Measuring S) (m : Meaning) where
       more : List (Result Grant CheckFault)
       follows : Follows (next_branch (at ds z)) log
       makes : Makes log wanted more rest
-      grants : All Granted more → All Granted got
+      grants : AllByRecursion Granted more → AllByRecursion Granted got
 
     feed : (tree : Tree) (ds : List Decision) → FullTree μ (decided m ds) z tree → length ds + depth tree ≤ 64 → (log : List Line) (wanted : List Request) (got : List (Result Grant CheckFault)) (rest : List Line) → Makes log (tree_calls tree ++ wanted) got rest → Follows (at ds z) log → Fed ds wanted got rest
     feed (leaf bytes) ds full deep log wanted got rest makes f =
         let w = goes (at ds z) Closed (next_branch (at ds z)) (closes ds bytes full.0 full.1 full.2) makes f in
-        record { log = w.log; more = w.more; follows = w.follows; makes = w.makes; grants = λ all. subst (All Granted) (sym w.is) (tt, all) }
+        record { log = w.log; more = w.more; follows = w.follows; makes = w.makes; grants = λ all. subst (AllByRecursion Granted) (sym w.is) (tt, all) }
     feed (forkTree i j first second) ds full deep log wanted got rest makes f =
         let n = decided_customers m ds in
         let w = goes (at ds z) Forked (at (ds ++ (forbid i j ∷ [])) z) (forks ds i j (omega (arith, full.0, n)) (omega (arith, full.1, n)) full.2 (omega arith)) makes f in
@@ -129,7 +129,7 @@ module _ {S : Type 0} (μ : Measuring S) (m : Meaning) where
           more = two.more;
           follows = subst (λ t. Follows t two.log) (drops ds i j) two.follows;
           makes = two.makes;
-          grants = λ all. subst (All Granted) (sym w.is) (tt, one.grants (two.grants all));
+          grants = λ all. subst (AllByRecursion Granted) (sym w.is) (tt, one.grants (two.grants all));
         }
 
     -- after the tree no call changes anything
@@ -154,7 +154,7 @@ module _ {S : Type 0} (μ : Measuring S) (m : Meaning) where
       stays_done (closing bytes) = refl
       stays_done asking = refl
 
-      says_proved : (rest : List Line) → Follows done rest → All (SaysProved z) rest
+      says_proved : (rest : List Line) → Follows done rest → AllByRecursion (SaysProved z) rest
       says_proved [] f = tt
       says_proved (x ∷ rest) f =
           (λ ask. f.0 ∙ ap (λ r. answer_of (attempt μ m done r)) ask, says_proved rest (subst (λ t. Follows t rest) (stays_done x.0) f.1))
@@ -164,12 +164,12 @@ module _ {S : Type 0} (μ : Measuring S) (m : Meaning) (lawful : Limits m) (boun
   presents : (routes : List (List ℕ)) → Plan m routes → attempt μ m opening (presenting (written routes)) ≡ Ok (at μ m [] (plan_cost m routes), Presented (price_of m routes))
   presents routes plan = ap (λ r. granted (λ p. Presented p) (hold opening r)) (plan_is_priced m lawful (written routes) routes refl plan)
 
-  pub never_withheld : (log : List Line) → Follows μ m opening log → (routes : List (List ℕ)) (tree : Tree) (got : List (Result Grant CheckFault)) (rest : List Line) → Plan m routes → FullTree μ m (plan_cost m routes) tree → depth tree ≤ 64 → Makes log (presenting (written routes) ∷ tree_calls tree) got rest → All Granted got × All (SaysProved (plan_cost m routes)) rest
+  pub never_withheld : (log : List Line) → Follows μ m opening log → (routes : List (List ℕ)) (tree : Tree) (got : List (Result Grant CheckFault)) (rest : List Line) → Plan m routes → FullTree μ m (plan_cost m routes) tree → depth tree ≤ 64 → Makes log (presenting (written routes) ∷ tree_calls tree) got rest → AllByRecursion Granted got × AllByRecursion (SaysProved (plan_cost m routes)) rest
   never_withheld log f routes tree got rest plan full deep makes =
       let z = plan_cost m routes in
       let w = goes μ m opening (Presented (price_of m routes)) (at μ m [] z) (presents routes plan) makes f in
       let fed = feed μ m z lawful opens tree [] full (omega arith) w.log [] w.more rest (subst (λ c. Makes w.log c w.more rest) (sym (append-nil (tree_calls tree))) w.makes) w.follows in
       let end = to_end μ m fed.makes (next_branch (at μ m [] z)) fed.follows in (
-        subst (All Granted) (sym w.is) (tt, fed.grants (subst (All Granted) (sym end.0) tt)),
+        subst (AllByRecursion Granted) (sym w.is) (tt, fed.grants (subst (AllByRecursion Granted) (sym end.0) tt)),
         says_proved μ m z lawful opens (tree_bounds μ z bounds opens m lawful tree full) rest end.1,
       )

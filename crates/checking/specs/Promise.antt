@@ -1,6 +1,6 @@
 -- The promise about logs: each answer is the rules', `proved` is true, and a full tree is never refused nor its word withheld.
 use Rattle.std.specs.Prelude.{◌≡◌, ℕ, suc, ◌≤◌, max, ◌⊎◌, List, [], ◌∷◌, ◌++◌, Ok, Err, Result, ◌≢◌}
-use Rattle.std.specs.List.{AllByRecursion as All}
+use Rattle.std.specs.List.{AllByRecursion}
 use Rattle.routing.specs.Network.{Meaning}
 use Rattle.routing.specs.Routes.{Plan, plan_cost}
 use Rattle.replay.specs.Listing.{written}
@@ -78,6 +78,6 @@ pub record Promise {S : Type 0} (μ : Measuring S) (m : Meaning) (calls : List R
   -- each answer is the one that the rules' check gives, fed with the same calls alone
   pub due : given ≡ answers μ m opening calls
   -- proved at a cost: some plan costs exactly that, and none costs less
-  pub true_word : All (λ a. (c : ℕ) → a ≡ Ok (Stands (Proved c)) → Cheapest m c) given
+  pub true_word : AllByRecursion (λ a. (c : ℕ) → a ≡ Ok (Stands (Proved c)) → Cheapest m c) given
   -- a plan presented, and then the calls of a full tree for its cost: all are granted, and every ask after them says proved
-  pub never_withheld : (routes : List (List ℕ)) (tree : Tree) (got : List (Result Grant CheckFault)) (rest : List Line) → Plan m routes → FullTree μ m (plan_cost m routes) tree → depth tree ≤ 64 → Makes (lines calls given) (presenting (written routes) ∷ tree_calls tree) got rest → All Granted got × All (SaysProved (plan_cost m routes)) rest
+  pub never_withheld : (routes : List (List ℕ)) (tree : Tree) (got : List (Result Grant CheckFault)) (rest : List Line) → Plan m routes → FullTree μ m (plan_cost m routes) tree → depth tree ≤ 64 → Makes (lines calls given) (presenting (written routes) ∷ tree_calls tree) got rest → AllByRecursion Granted got × AllByRecursion (SaysProved (plan_cost m routes)) rest

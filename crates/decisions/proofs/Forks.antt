@@ -1,7 +1,7 @@
 -- Each plan goes on under one side or the other of a fork.
 use Rattle.std.proofs.Common.{◌≡◌, ℕ, ◌≤◌, true, false, ◌⊎◌, List, [], ◌∷◌, ◌++◌, ap, ◌∙◌, inl, inr, ⊎_elim, arith}
 use Rattle.std.proofs.lemmas.Bool.{cases_Bool, cases_lt, cond-false, and_parts, and_from, or_parts, or_cases, not-true, both_ways, eq-eqb, eqb-true, eqb-false}
-use Rattle.std.specs.List.{AllByRecursion as All}
+use Rattle.std.specs.List.{AllByRecursion}
 use Rattle.routing.specs.Network.{Meaning}
 use Rattle.routing.specs.Routes.{Drive, OnTime, Drivable, Plan}
 use Rattle.routing.specs.Routes.OnTime.{home, stop}
@@ -12,9 +12,9 @@ use Rattle.decisions.proofs.Once.{alone, count_starts, count_ends, visited_once}
 
 -- no arc of these is removed
 abbrev pub Spared : Decision → List (ℕ × ℕ) → Type 0
-Spared d arcs = All (λ a. removes d a.0 a.1 ≡ false) arcs
+Spared d arcs = AllByRecursion (λ a. removes d a.0 a.1 ≡ false) arcs
 
-all_split : {X : Type 0} (P : X → Type 0) (xs ys : List X) → All P (xs ++ ys) → All P xs × All P ys
+all_split : {X : Type 0} (P : X → Type 0) (xs ys : List X) → AllByRecursion P (xs ++ ys) → AllByRecursion P xs × AllByRecursion P ys
 all_split P [] ys all = (tt, all)
 all_split P (x ∷ xs) ys all = let rest = all_split P xs ys all.1 in ((all.0, rest.0), rest.1)
 
@@ -48,7 +48,7 @@ module _ (m : Meaning) (d : Decision) where
     };
   }
 
-  all_under : (routes : List (List ℕ)) → All (Drivable m) routes → Spared d (plan_arcs routes) → All (Drivable (under d m)) routes
+  all_under : (routes : List (List ℕ)) → AllByRecursion (Drivable m) routes → Spared d (plan_arcs routes) → AllByRecursion (Drivable (under d m)) routes
   all_under [] all spared = tt
   all_under (route ∷ routes) all spared =
       let parts = all_split (λ a. removes d a.0 a.1 ≡ false) (route_arcs route) (plan_arcs routes) spared in
@@ -92,7 +92,7 @@ sole i j a out into =
     (λ kept. kept)
     (cases_Bool (removes (force i j) a.0 a.1))
 
-sole_all : (i j : ℕ) (arcs : List (ℕ × ℕ)) → (1 ≤ i → All (λ a. a.0 ≡ i → a ≡ (i, j)) arcs) → (1 ≤ j → All (λ a. a.1 ≡ j → a ≡ (i, j)) arcs) → Spared (force i j) arcs
+sole_all : (i j : ℕ) (arcs : List (ℕ × ℕ)) → (1 ≤ i → AllByRecursion (λ a. a.0 ≡ i → a ≡ (i, j)) arcs) → (1 ≤ j → AllByRecursion (λ a. a.1 ≡ j → a ≡ (i, j)) arcs) → Spared (force i j) arcs
 sole_all i j [] out into = tt
 sole_all i j (a ∷ arcs) out into = (
   sole i j a (λ some. (out some).0) (λ some. (into some).0),

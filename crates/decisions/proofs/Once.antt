@@ -3,7 +3,7 @@ use Rattle.std.proofs.Common.{◌≡◌, ℕ, ◌<◌, ◌≤◌, true, cond, �
 use Rattle.std.proofs.ByRecursion.{All-append}
 use Rattle.std.proofs.lemmas.List.{map-append}
 use Rattle.std.proofs.lemmas.Bool.{cases_Bool, cases_lt, and_parts, eqb-true}
-use Rattle.std.specs.List.{AllByRecursion as All}
+use Rattle.std.specs.List.{AllByRecursion}
 use Rattle.routing.specs.Network.{Meaning}
 use Rattle.routing.specs.Routes.{count, visits, Customer, Drivable, Plan}
 use Rattle.routing.proofs.Counts.{count_append, count_same, count_other, count_push_other}
@@ -43,11 +43,11 @@ count_starts c some = count_arcs (λ a. a.0) c (λ route. ap (count c) (starts 0
 pub count_ends : (c : ℕ) → 1 ≤ c → (routes : List (List ℕ)) → count c (map (λ a. a.1) (plan_arcs routes)) ≡ count c (visits routes)
 count_ends c some = count_arcs (λ a. a.1) c (λ route. ap (count c) (ends 0 route) ∙ count_push_other c 0 route (λ e. omega arith))
 
-visits_customers : (m : Meaning) (routes : List (List ℕ)) → All (Drivable m) routes → All (Customer m) (visits routes)
+visits_customers : (m : Meaning) (routes : List (List ℕ)) → AllByRecursion (Drivable m) routes → AllByRecursion (Customer m) (visits routes)
 visits_customers m [] all = tt
 visits_customers m (route ∷ routes) all = All-append (Customer m) route (visits routes) all.0.route.customers (visits_customers m routes all.1)
 
-beyond : (m : Meaning) (c : ℕ) → m.customers < c → (xs : List ℕ) → All (Customer m) xs → count c xs ≡ 0
+beyond : (m : Meaning) (c : ℕ) → m.customers < c → (xs : List ℕ) → AllByRecursion (Customer m) xs → count c xs ≡ 0
 beyond m c past [] all = refl
 beyond m c past (x ∷ xs) all = count_other c x xs (λ e. omega (arith, all.0.1)) ∙ beyond m c past xs all.1
 
@@ -59,7 +59,7 @@ visited_once m routes p c some =
     (cases_lt m.customers c)
 
 -- the arcs that are none of x, where none has its f
-none_like : (f : ℕ × ℕ → ℕ) (x : ℕ × ℕ) (arcs : List (ℕ × ℕ)) → count (f x) (map f arcs) ≡ 0 → All (λ a. f a ≡ f x → a ≡ x) arcs
+none_like : (f : ℕ × ℕ → ℕ) (x : ℕ × ℕ) (arcs : List (ℕ × ℕ)) → count (f x) (map f arcs) ≡ 0 → AllByRecursion (λ a. f a ≡ f x → a ≡ x) arcs
 none_like f x [] none = tt
 none_like f x (a ∷ arcs) none = (
   λ e. absurd (omega (arith, ap (λ k. count (f x) (k ∷ map f arcs)) e, count_same (f x) (map f arcs), none)),
@@ -75,7 +75,7 @@ used_counts f x (a ∷ arcs) e =
     (cases_Bool (same_arc a x))
 
 -- a used arc is the only one with its f, where no two have the same
-pub alone : (f : ℕ × ℕ → ℕ) (x : ℕ × ℕ) (arcs : List (ℕ × ℕ)) → uses x arcs ≡ true → count (f x) (map f arcs) ≤ 1 → All (λ a. f a ≡ f x → a ≡ x) arcs
+pub alone : (f : ℕ × ℕ → ℕ) (x : ℕ × ℕ) (arcs : List (ℕ × ℕ)) → uses x arcs ≡ true → count (f x) (map f arcs) ≤ 1 → AllByRecursion (λ a. f a ≡ f x → a ≡ x) arcs
 alone f x [] e once = tt
 alone f x (a ∷ arcs) e once =
     ⊎_elim

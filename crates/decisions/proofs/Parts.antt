@@ -1,7 +1,7 @@
 -- A plan of a part of a network is a plan of the network, at the same cost.
 use Rattle.std.proofs.Common.{◌≡◌, ℕ, ◌+◌, List, [], ◌∷◌, sym, refl, ap, ◌∙◌, ap₂, arith}
 use Rattle.std.proofs.ByRecursion.{All-weaker}
-use Rattle.std.specs.List.{AllByRecursion as All}
+use Rattle.std.specs.List.{AllByRecursion}
 use Rattle.routing.specs.Network.{Meaning}
 use Rattle.routing.specs.Routes.{Drive, OnTime, Schedule, Customer, Drivable, Plan, place_load, arc_cost, cost_from, route_load, plan_cost}
 use Rattle.routing.specs.Routes.OnTime.{home, stop}
@@ -60,7 +60,7 @@ module _ (n m : Meaning) (part : Part n m) where
   on_time_cost (home d back there closed) = drive_cost d
   on_time_cost (stop d start there opened closed on) = ap₂ ◌+◌ (drive_cost d) (on_time_cost on)
 
-  plan_cost_same : (routes : List (List ℕ)) → All (Drivable n) routes → plan_cost n routes ≡ plan_cost m routes
+  plan_cost_same : (routes : List (List ℕ)) → AllByRecursion (Drivable n) routes → plan_cost n routes ≡ plan_cost m routes
   plan_cost_same [] all = refl
   plan_cost_same (route ∷ routes) all = ap₂ ◌+◌ (on_time_cost all.0.schedule.on_time) (plan_cost_same routes all.1)
 

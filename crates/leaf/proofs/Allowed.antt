@@ -2,7 +2,7 @@
 use Rattle.std.proofs.Common.{◌≡◌, ℕ, suc, ◌+◌, ◌-◌, ◌*◌, ◌<◌, ◌≤◌, Bool, true, false, List, ℤ, pos, ◌-ℤ◌, nat_abs, Some, None, Option, ap, ◌∙◌, subst, arith}
 use lib.Signed.{le_z}
 use Rattle.std.proofs.lemmas.Bool.{cond-true, cond-false, eq-eqb, ne_eqb}
-use Rattle.std.specs.List.{AllByRecursion as All}
+use Rattle.std.specs.List.{AllByRecursion}
 use Rattle.measures.specs.Measure.{Measuring}
 use Rattle.measures.specs.declared.moves.Move.{Move}
 use Rattle.leaf.specs.declared.potentials.Potential.{Potential}
@@ -22,7 +22,7 @@ module _ {S : Type 0} (μ : Measuring S) (leaf : Leaf S) (v : ℤ) (s : S) (j : 
       ok_step ∙ cond-false _ _ _ (ne_eqb j 0 onward) ∙ ap (potential_ok v (pos (leaf.scale * cost) -ℤ dual leaf j)) top
 
 -- the best of small values is small
-pub best_small : {S : Type 0} (μ : Measuring S) (j : ℕ) (y : S) (es : List (Potential S)) (h : ℤ) → All (λ e. nat_abs e.value ≤ 1000000000000000) es → best μ es j y ≡ Some h → nat_abs h ≤ 1000000000000000
+pub best_small : {S : Type 0} (μ : Measuring S) (j : ℕ) (y : S) (es : List (Potential S)) (h : ℤ) → AllByRecursion (λ e. nat_abs e.value ≤ 1000000000000000) es → best μ es j y ≡ Some h → nat_abs h ≤ 1000000000000000
 best_small μ j y es h all is =
     let top = best_reached μ j y (λ e. nat_abs e.value ≤ 1000000000000000) es h all is in
     subst (λ v. nat_abs v ≤ 1000000000000000) top.3 top.1

@@ -2,7 +2,7 @@
 use Rattle.std.proofs.Common.{◌≡◌, ℕ, ◌*◌, ◌≤◌, true, List, length, ℤ, pos, ◌-ℤ◌, ◌≤ℤ◌, Some, None, Option, refl, ap, subst, arith}
 use Rattle.std.proofs.ByRecursion.{All-weaker}
 use Rattle.std.proofs.lemmas.Int.{ints}
-use Rattle.std.specs.List.{AllByRecursion as All}
+use Rattle.std.specs.List.{AllByRecursion}
 use Rattle.routing.specs.declared.cells.Place.{Place}
 use Rattle.routing.specs.Network.{Meaning, Limits}
 use Rattle.routing.specs.Routes.{Drivable, Customer, cost_from, arc_cost, route_cost}
@@ -34,7 +34,7 @@ OnwardAll μ m leaf v s i = (j : ℕ) → 1 ≤ j → Onward μ m leaf v s i j
 
 module _ {S : Type 0} (μ : Measuring S) (m : Meaning) (leaf : Leaf S) (laws : Laws μ) (z : ℕ) (rule : Holds μ m leaf z) where
   -- a value that the rule keeps at a state p is, from any state that p is at most, at most the scaled cost of the stops and home less their duals
-  along : {s : S} {i : ℕ} {stops : List ℕ} → Steps μ m s i stops → All (λ c. 1 ≤ c) stops → (v : ℤ) (p : S) → μ.at_most p s ≡ true → (length stops ≡ 0 → Home μ m leaf v p i) → OnwardAll μ m leaf v p i → v ≤ℤ (pos (leaf.scale * cost_from m i stops) -ℤ total_z (dual leaf) stops)
+  along : {s : S} {i : ℕ} {stops : List ℕ} → Steps μ m s i stops → AllByRecursion (λ c. 1 ≤ c) stops → (v : ℤ) (p : S) → μ.at_most p s ≡ true → (length stops ≡ 0 → Home μ m leaf v p i) → OnwardAll μ m leaf v p i → v ≤ℤ (pos (leaf.scale * cost_from m i stops) -ℤ total_z (dual leaf) stops)
   along {s} {i} (home y is) all v p low at_home onward =
       let arc = step_arc μ m s y i 0 is in
       let x = moves_alike μ laws p s y (move m i 0) low is in

@@ -5,7 +5,7 @@ use Rattle.std.proofs.ByRecursion.{All-weaker, all-has}
 use Rattle.std.proofs.lemmas.Int.{ints, clamps}
 use Rattle.std.proofs.lemmas.Bool.{cases_Bool, cases_cond, cond-true, cond-false, and_parts, and_from, eq-eqb, eqb-true}
 use Rattle.std.specs.Int.{int_max}
-use Rattle.std.specs.List.{ContainsAt as Has, AllByRecursion as All}
+use Rattle.std.specs.List.{ContainsAt as Has, AllByRecursion}
 use Rattle.measures.specs.Measure.{Measuring}
 use Rattle.leaf.specs.declared.potentials.Potential.{Potential}
 use Rattle.leaf.specs.Rule.{best, larger}
@@ -51,7 +51,7 @@ module _ {S : Type 0} (μ : Measuring S) (j : ℕ) (y : S) where
   counts_from e passed = let parts = and_parts _ _ passed in record { at = eqb-true e.place j parts.0; below = parts.1 }
 
   -- the best is the value of an entry that counts, of which holds what holds of every entry
-  pub best_reached : (P : Potential S → Type 0) (es : List (Potential S)) (h : ℤ) → All P es → best μ es j y ≡ Some h → (e : Potential S) × P e × Counts μ j y e × (e.value ≡ h)
+  pub best_reached : (P : Potential S → Type 0) (es : List (Potential S)) (h : ℤ) → AllByRecursion P es → best μ es j y ≡ Some h → (e : Potential S) × P e × Counts μ j y e × (e.value ≡ h)
   best_reached P [] h all is = absurd (let z : ◌≡◌ {A = ℕ} 0 1 = cc in omega arith)
   best_reached P (e ∷ es) h all is =
       ⊎_elim
@@ -70,7 +70,7 @@ module _ {S : Type 0} (μ : Measuring S) (j : ℕ) (y : S) where
       (cases_Bool (test e))
 
   -- where an entry counts there is a best, and it is at least the entry's value
-  pub best_bounds : (es : List (Potential S)) → All (λ e. Counts μ j y e → Bounded (best μ es j y) e.value) es
+  pub best_bounds : (es : List (Potential S)) → AllByRecursion (λ e. Counts μ j y e → Bounded (best μ es j y) e.value) es
   best_bounds [] = tt
   best_bounds (e ∷ es) = (
     λ c. record {

@@ -4,7 +4,7 @@ use native.Mathlib.Nat.{lt_of_mul-lt-mul_left}
 use Rattle.std.proofs.ByRecursion.{All-append}
 use Rattle.std.proofs.lemmas.Int.{ints}
 use Rattle.std.proofs.lemmas.Bool.{cond-false, le-ltb}
-use Rattle.std.specs.List.{AllByRecursion as All}
+use Rattle.std.specs.List.{AllByRecursion}
 use Rattle.routing.specs.Network.{Meaning, Limits}
 use Rattle.routing.specs.Routes.{Customer, Drivable, Plan, plan_cost, visits}
 use Rattle.measures.specs.Measure.{Measuring, Laws}
@@ -20,13 +20,13 @@ counted_least m (pos a) k least most =
 counted_least m (negsuc a) k least most = omega (arith, ints, mul-le-mul_left (suc a) most)
 
 -- the customers of a plan's routes
-visited : (m : Meaning) (routes : List (List ℕ)) → All (Drivable m) routes → All (Customer m) (visits routes)
+visited : (m : Meaning) (routes : List (List ℕ)) → AllByRecursion (Drivable m) routes → AllByRecursion (Customer m) (visits routes)
 visited m [] all = tt
 visited m (route ∷ routes) all = All-append (Customer m) route (visits routes) all.0.route.customers (visited m routes all.1)
 
 module _ {S : Type 0} (μ : Measuring S) (m : Meaning) (leaf : Leaf S) (laws : Laws μ) (z : ℕ) (rule : Holds μ m leaf z) where
   -- the van price of each route, over routes that can be driven
-  routes_bound : Limits m → (routes : List (List ℕ)) → All (Drivable m) routes → (leaf.van_price *ℤ pos (length routes)) ≤ℤ (pos (leaf.scale * plan_cost m routes) -ℤ total_z (dual leaf) (visits routes))
+  routes_bound : Limits m → (routes : List (List ℕ)) → AllByRecursion (Drivable m) routes → (leaf.van_price *ℤ pos (length routes)) ≤ℤ (pos (leaf.scale * plan_cost m routes) -ℤ total_z (dual leaf) (visits routes))
   routes_bound limits [] all = omega (arith, ints)
   routes_bound limits (route ∷ routes) all =
       omega (
@@ -51,6 +51,6 @@ pub leaf_bounds : {S : Type 0} (μ : Measuring S) (m : Meaning) (leaf : Leaf S) 
 leaf_bounds μ m leaf z laws limits long some rule routes plan =
     let vans = counted_least m leaf.van_price (length routes) plan.least plan.most in
     let priced = routes_bound μ m leaf laws z rule limits routes plan.drivable in
-    let customers : All (λ c. (1 ≤ c) × (c ≤ length leaf.duals)) (visits routes) = rw long (visited m routes plan.drivable) in
+    let customers : AllByRecursion (λ c. (1 ≤ c) × (c ≤ length leaf.duals)) (visits routes) = rw long (visited m routes plan.drivable) in
     let duals = totalZ_once leaf.duals (pos 0) (visits routes) customers (λ c low high. plan.once c (low, omega arith)) in
     scaled leaf.scale z (plan_cost m routes) (bound m leaf) rule.bounds (omega (arith, ints))

@@ -3,7 +3,7 @@ use Rattle.std.proofs.Common.{◌≡◌, ℕ, zero, suc, ◌+◌, ◌*◌, ◌<�
 use lib.Signed.{lt_z, le_z}
 use Rattle.std.proofs.lemmas.Int.{ints}
 use Rattle.std.proofs.lemmas.Bool.{cond-true, cond-false, cases_eq, eq-eqb, ne_eqb, false≢true}
-use Rattle.std.specs.List.{AllByRecursion as All}
+use Rattle.std.specs.List.{AllByRecursion}
 use Rattle.routing.specs.declared.cells.Place.{Place}
 use Rattle.routing.specs.Network.{Meaning, Limits}
 use Rattle.measures.specs.Measure.{Measuring, Laws, move, moved}
@@ -126,12 +126,12 @@ module _ {S : Type 0} (μ : Measuring S) (m : Meaning) (leaf : Leaf S) (limits :
       home_at k home =
           ap (arc_ok μ m leaf e.value e.corner e.place) home ∙ home_met μ leaf e.value e.corner 0 (m.arc e.place 0) (move m e.place 0) refl holds.0
 
-  entries_hold : (at size : ℕ) (es : List (Potential S)) → entries_answer μ m leaf at size es ≡ Ok tt → All (EntryHolds μ m leaf) es
+  entries_hold : (at size : ℕ) (es : List (Potential S)) → entries_answer μ m leaf at size es ≡ Ok tt → AllByRecursion (EntryHolds μ m leaf) es
   entries_hold at size [] e = tt
   entries_hold at size (x ∷ es) e =
       let parts = unless_ok _ (λ j. Entry x.place j at) _ e in (entry_holds x parts.0, entries_hold (at + size) size es parts.1)
 
-  entries_pass : (at size : ℕ) (es : List (Potential S)) → All (EntryHolds μ m leaf) es → entries_answer μ m leaf at size es ≡ Ok tt
+  entries_pass : (at size : ℕ) (es : List (Potential S)) → AllByRecursion (EntryHolds μ m leaf) es → entries_answer μ m leaf at size es ≡ Ok tt
   entries_pass at size [] all = refl
   entries_pass at size (x ∷ es) all =
       ap (λ o. unless o (λ j. Entry x.place j at) (entries_answer μ m leaf (at + size) size es)) (entry_passes x all.0) ∙ entries_pass (at + size) size es all.1

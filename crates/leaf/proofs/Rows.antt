@@ -3,7 +3,7 @@ use Rattle.std.proofs.Common.{◌≡◌, ℕ, zero, suc, ◌+◌, ◌-◌, ◌*�
 use Rattle.std.proofs.lemmas.List.FromFn.{length-map-range_with_len, get_or-map-range_with_len}
 use Rattle.std.proofs.ByRecursion.{All-map}
 use Rattle.std.proofs.lemmas.List.{at_drop_more}
-use Rattle.std.specs.List.{range_with_len, AllByRecursion as All}
+use Rattle.std.specs.List.{range_with_len, AllByRecursion}
 use Rattle.routing.specs.Network.{Meaning, Limits}
 use Rattle.measures.specs.Measure.{Measuring, move}
 use Rattle.measures.specs.declared.moves.Move.{Move}
@@ -13,7 +13,7 @@ use Rattle.leaf.specs.Answer.{arc_ok, drive, drive_along, drive_ok, entries_answ
 use Rattle.leaf.specs.Held.{Cheap, decoded, drives}
 use Rattle.leaf.specs.Rule.{Leaf}
 
-all_every : {X : Type 0} (P : X → Type 0) → ((x : X) → P x) → (xs : List X) → All P xs
+all_every : {X : Type 0} (P : X → Type 0) → ((x : X) → P x) → (xs : List X) → AllByRecursion P xs
 all_every P each [] = tt
 all_every P each (x ∷ xs) = (each x, all_every P each xs)
 
@@ -22,7 +22,7 @@ along_cheap None by cheap = tt
 along_cheap (Some arc) None cheap = tt
 along_cheap (Some arc) (Some by) cheap = cheap arc.0 arc.1 refl
 
-pub drives_cheap : (m : Meaning) → Limits m → (i : ℕ) → All Cheap (drives m i)
+pub drives_cheap : (m : Meaning) → Limits m → (i : ℕ) → AllByRecursion Cheap (drives m i)
 unfolding drives
 drives_cheap m limits i =
     All-map Cheap (drive m i) (range_with_len 0 (m.customers + 1)) (all_every (λ j. Cheap (drive m i j)) (λ j. along_cheap (m.arc i j) (move m i j) (λ cost travel is. (limits.arcs i j cost travel is).cheap)) (range_with_len 0 (m.customers + 1)))

@@ -2,7 +2,7 @@
 use Rattle.std.proofs.Common.{◌≡◌, ℕ, zero, suc, ◌+◌, ◌*◌, ◌<◌, ◌≤◌, Bool, true, false, cond, List, [], ◌∷◌, length, get_or, ℤ, pos, nat_abs, Some, None, Ok, Err, Option, Result, sym, refl, ap, ◌∙◌, subst, arith}
 use Rattle.std.proofs.lemmas.List.{get_or_default}
 use Rattle.std.proofs.lemmas.Bool.{cond-true, cond-false, ltb-false, le-ltb, eq-eqb, eqb-true, and_from, and_parts, or_from, or_parts}
-use Rattle.std.specs.List.{AllByRecursion as All}
+use Rattle.std.specs.List.{AllByRecursion}
 use Rattle.measures.specs.Measure.{Measuring}
 use Rattle.leaf.specs.declared.faults.LeafFault.{LeafFault}
 use Rattle.leaf.specs.declared.potentials.Potential.{Potential}
@@ -80,13 +80,13 @@ module _ {S : Type 0} (μ : Measuring S) (n : ℕ) (bytes : List ℕ) where
 
 -- fields of one kind, one after another
 module _ {X : Type 0} (read : ℕ → Result X LeafFault) (size : ℕ) where
-  pub each_all : (P : X → Type 0) → ((at : ℕ) (x : X) → read at ≡ Ok x → P x) → (at n : ℕ) (xs : List X) → read_each read at size n ≡ Ok xs → All P xs
-  each_all P each at zero xs e = let none : [] ≡ xs = cc in subst (All P) none tt
+  pub each_all : (P : X → Type 0) → ((at : ℕ) (x : X) → read at ≡ Ok x → P x) → (at n : ℕ) (xs : List X) → read_each read at size n ≡ Ok xs → AllByRecursion P xs
+  each_all P each at zero xs e = let none : [] ≡ xs = cc in subst (AllByRecursion P) none tt
   each_all P each at (suc n) xs e =
       let x = after_ok (read at) _ xs e in
       let rest = after_ok (read_each read (at + size) size n) _ xs x.2 in
       let whole : (x.0 ∷ rest.0) ≡ xs = cc in
-      subst (All P) whole (each at x.0 x.1, each_all P each (at + size) n rest.0 rest.1)
+      subst (AllByRecursion P) whole (each at x.0 x.1, each_all P each (at + size) n rest.0 rest.1)
 
   pub each_long : (at n : ℕ) (xs : List X) → read_each read at size n ≡ Ok xs → length xs ≡ n
   each_long at zero xs e = let none : [] ≡ xs = cc in ap length (sym none)

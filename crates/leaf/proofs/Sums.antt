@@ -2,7 +2,7 @@
 use Rattle.std.proofs.Common.{◌≡◌, ℕ, zero, suc, ◌+◌, ◌-◌, ◌≤◌, List, [], ◌∷◌, ◌++◌, length, get_or, ℤ, pos, ◌+ℤ◌, refl, ap, ◌∙◌, arith}
 use borrow.Author.Differences.{up, down}
 use Rattle.std.proofs.lemmas.Int.{ints}
-use Rattle.std.specs.List.{AllByRecursion as All}
+use Rattle.std.specs.List.{AllByRecursion}
 use Rattle.routing.specs.Routes.{count, total}
 use Rattle.routing.proofs.Counts.{upto, upto_same, total_once}
 use Rattle.leaf.specs.Rule.{sum_z}
@@ -45,7 +45,7 @@ upto_getD f d (x ∷ xs) =
     shift c low high = let e : suc c - 1 ≡ suc (c - 1) = omega arith in ap (λ k. f (get_or (x ∷ xs) k d)) e
 
 -- where each number from 1 to the list's length stands once
-pub totalZ_once : (xs : List ℤ) (d : ℤ) (cs : List ℕ) → All (λ c. (1 ≤ c) × (c ≤ length xs)) cs → ((c : ℕ) → 1 ≤ c → c ≤ length xs → count c cs ≡ 1) → total_z (λ c. get_or xs (c - 1) d) cs ≡ sum_z xs
+pub totalZ_once : (xs : List ℤ) (d : ℤ) (cs : List ℕ) → AllByRecursion (λ c. (1 ≤ c) × (c ≤ length xs)) cs → ((c : ℕ) → 1 ≤ c → c ≤ length xs → count c cs ≡ 1) → total_z (λ c. get_or xs (c - 1) d) cs ≡ sum_z xs
 totalZ_once xs d cs all once =
     let above = total_once (λ c. up (get_or xs (c - 1) d)) (length xs) cs all once ∙ upto_getD up d xs in
     let below = total_once (λ c. down (get_or xs (c - 1) d)) (length xs) cs all once ∙ upto_getD down d xs in

@@ -1,6 +1,6 @@
 -- A leaf as it was read, the limits of its numbers, and the order of its entries for look-ups.
 use Rattle.std.specs.Prelude.{◌≡◌, ℕ, ◌+◌, ◌*◌, ◌<◌, ◌≤◌, true, List, map, length, ℤ, ◌≤ℤ◌, is_some, Some, None, Option, slice_index, slice_index_or, unsigned_abs}
-use Rattle.std.specs.List.{range_with_len, AllByRecursion as All}
+use Rattle.std.specs.List.{range_with_len, AllByRecursion}
 use Rattle.std.specs.Option.{unwrap_or}
 use Rattle.std.specs.List.Sorted.{IsPermutation}
 use Rattle.routing.specs.Network.{Meaning}
@@ -51,8 +51,8 @@ AllReadable μ bytes l count = (i : ℕ) → i < count → Readable μ bytes (st
 pub record Small {S : Type 0} (leaf : Leaf S) : Type 0 where
   pub scale : leaf.scale ≤ 1000
   pub price : unsigned_abs leaf.van_price ≤ 1000000000000000
-  pub duals : All (λ p. unsigned_abs p ≤ 1000000000000) leaf.duals
-  pub entries : All (λ e. unsigned_abs e.value ≤ 1000000000000000) leaf.entries
+  pub duals : AllByRecursion (λ p. unsigned_abs p ≤ 1000000000000) leaf.duals
+  pub entries : AllByRecursion (λ e. unsigned_abs e.value ≤ 1000000000000000) leaf.entries
 
 -- what an arc costs at most
 abbrev pub Cheap : Option (ℕ × Move) → Type 0

@@ -1,7 +1,7 @@
 -- The leaf rule, over any meaning of a network and of a measure.
 use Rattle.std.specs.Prelude.{◌≡◌, ℕ, ◌-◌, ◌*◌, ◌≤◌, cond, ◌&&◌, List, [], ◌∷◌, ℤ, pos, ◌+ℤ◌, ◌-ℤ◌, ◌*ℤ◌, ◌≤ℤ◌, ◌<ℤ◌, Some, None, Option, ◌==◌, int_lt, slice_index_or}
 use Rattle.std.specs.Int.{int_max}
-use Rattle.std.specs.List.{AllByRecursion as All}
+use Rattle.std.specs.List.{AllByRecursion}
 use Rattle.routing.specs.declared.cells.Place.{Place}
 use Rattle.routing.specs.Network.{Meaning}
 use Rattle.measures.specs.Measure.{Measuring, after_arc}
@@ -54,6 +54,6 @@ bound m leaf = sum_z leaf.duals +ℤ (leaf.van_price *ℤ pos (vans_counted m le
 
 -- the rule at a network, for the cost z of a plan
 pub record Holds {S : Type 0} (μ : Measuring S) (m : Meaning) (leaf : Leaf S) (z : ℕ) : Type 0 where
-  pub entries : All (EntryHolds μ m leaf) leaf.entries
+  pub entries : AllByRecursion (EntryHolds μ m leaf) leaf.entries
   pub depot : (p : Place) → m.place 0 ≡ Some p → (j : ℕ) → 1 ≤ j → Onward μ m leaf leaf.van_price (μ.start p.opening) 0 j
   pub bounds : (pos leaf.scale *ℤ (pos z -ℤ pos 1)) <ℤ bound m leaf

@@ -1,6 +1,6 @@
 // Whether a value keeps the rule along the arcs from its place.
 ghost use Rattle.std.specs.Prelude.{◌≡◌, ℕ, ◌+◌, ◌-◌, ◌*◌, ◌<◌, ◌≤◌, length, pos, ◌+ℤ◌, ◌-ℤ◌, None, int_le, slice_index_or, unsigned_abs};
-ghost use Rattle.std.specs.List.{AllByRecursion as All};
+ghost use Rattle.std.specs.List.{AllByRecursion};
 ghost use Rattle.leaf.specs.Answer.{drive_ok, first_refused};
 ghost use Rattle.leaf.specs.Held.{leaf_of, Cheap, Ready};
 
@@ -76,7 +76,7 @@ pub(crate) fn first_broken<M: Measure>(
     row: &[Option<(u32, Move)>],
     first: u8,
 ) -> Option<u8>
-    requires { (Ready (M.Measure.meaning measure.now) leaf) × ((All Cheap row.now) × (length row.now ≡ length leaf.duals.now + 1)) }
+    requires { (Ready (M.Measure.meaning measure.now) leaf) × ((AllByRecursion Cheap row.now) × (length row.now ≡ length leaf.duals.now + 1)) }
     ensures { result ≡ first_refused (λ j. drive_ok (M.Measure.meaning measure.now) (leaf_of (M.Measure.meaning measure.now) leaf.entry) value state j (slice_index_or row.now j None)) first (length leaf.entry.duals.now + 1 - first) }
 {
     for to in first..leaf.duals.len() as u8 + 1 {

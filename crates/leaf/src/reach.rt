@@ -1,6 +1,6 @@
 // The bound that a leaf gives on the cost of a plan.
 ghost use Rattle.std.specs.Prelude.{◌≡◌, ◌+◌, ◌-◌, ◌*◌, ◌≤◌, length, pos, ◌+ℤ◌, ◌-ℤ◌, ◌*ℤ◌, if◌then◌else◌, Ok, Err, int_lt, unsigned_abs};
-ghost use Rattle.std.specs.List.{AllByRecursion as All};
+ghost use Rattle.std.specs.List.{AllByRecursion};
 ghost use Rattle.leaf.specs.declared.faults.LeafFault.TheVariants.{Bound};
 ghost use Rattle.leaf.specs.Answer.{bound_answer};
 ghost use Rattle.leaf.specs.Held.{leaf_of, Ready};
@@ -21,7 +21,7 @@ fn with_dual(sum: i64, dual: i64) -> i64
 
 // The sum of the duals.
 fn dual_sum(duals: &[i64]) -> i64
-    requires { (length duals.now ≤ 60) × (All (λ p. unsigned_abs p ≤ 1000000000000) duals.now) }
+    requires { (length duals.now ≤ 60) × (AllByRecursion (λ p. unsigned_abs p ≤ 1000000000000) duals.now) }
     ensures value { result ≡ sum_z duals.now }
     ensures small { unsigned_abs result ≤ 60000000000000 }
 {

@@ -1,6 +1,6 @@
 // The rule of a leaf: at each of its entries, and at the depot.
 ghost use Rattle.std.specs.Prelude.{◌≡◌, ◌+◌, ◌-◌, length, None, slice_index_or};
-ghost use Rattle.std.specs.List.{AllByRecursion as All};
+ghost use Rattle.std.specs.List.{AllByRecursion};
 ghost use Rattle.leaf.specs.Answer.{drive_ok, first_refused, entries_answer, depot_answer};
 ghost use Rattle.leaf.specs.Broken.{precedes, found_at, earliest, Faulted};
 ghost use Rattle.leaf.specs.Held.{leaf_of, decoded, Cheap, Inside, Readable, Ready};
@@ -49,7 +49,7 @@ fn earlier<M: Measure>(
     entry: Potential<usize>,
     first: Option<Broken>,
 ) -> Option<Broken>
-    requires { (Ready (M.Measure.meaning measure.now) leaf) × ((All Cheap row.now) × ((length row.now ≡ length leaf.duals.now + 1) × ((Inside (M.Measure.meaning measure.now).words leaf.bytes.now entry) × (Readable (M.Measure.meaning measure.now) leaf.bytes.now entry)))) }
+    requires { (Ready (M.Measure.meaning measure.now) leaf) × ((AllByRecursion Cheap row.now) × ((length row.now ≡ length leaf.duals.now + 1) × ((Inside (M.Measure.meaning measure.now).words leaf.bytes.now entry) × (Readable (M.Measure.meaning measure.now) leaf.bytes.now entry)))) }
     ensures { result ≡ earliest (first_refused (λ j. drive_ok (M.Measure.meaning measure.now) (leaf_of (M.Measure.meaning measure.now) leaf.entry) entry.value (decoded (M.Measure.meaning measure.now) leaf.entry.bytes.now entry).corner j (slice_index_or row.now j None)) 0 (length leaf.entry.duals.now + 1 - 0)) index entry.place first }
 {
     if precedes(first, index) {

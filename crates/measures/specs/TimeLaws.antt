@@ -3,7 +3,7 @@ use Rattle.std.specs.Prelude.{◌≡◌, ℕ, ◌+◌, ◌≤◌, max, true, Lis
 use Rattle.std.proofs.Common.{ap, ◌∙◌, arith}
 use Rattle.std.proofs.lemmas.Bool.{cond-false, ne_eqb, le-leb, leb-true}
 use Rattle.std.proofs.ByRecursion.{All-weaker}
-use Rattle.std.specs.List.{AllByRecursion as All}
+use Rattle.std.specs.List.{AllByRecursion}
 use Rattle.routing.specs.declared.cells.Place.{Place}
 use Rattle.routing.specs.Network.{Meaning}
 use Rattle.routing.specs.Routes.{OnTime, Customer}
@@ -28,7 +28,7 @@ module _ (m : Meaning) where
   left_stop i p some = cond-false _ _ _ (ne_eqb i 0 (λ e. omega arith))
 
   -- a van that is never behind some schedule is never late
-  keeps_up : {i ready : ℕ} {rest : List ℕ} → OnTime m i ready rest → All (λ c. 1 ≤ c) rest → (s : ℕ) → ((p : Place) → m.place i ≡ Some p → s + service_left i p ≤ ready) → Steps time_measuring m s i rest
+  keeps_up : {i ready : ℕ} {rest : List ℕ} → OnTime m i ready rest → AllByRecursion (λ c. 1 ≤ c) rest → (s : ℕ) → ((p : Place) → m.place i ≡ Some p → s + service_left i p ≤ ready) → Steps time_measuring m s i rest
   keeps_up {i} (home d back there closed) all s early =
       let soon = early d.left d.left_is in
       let opens = d.reached.opens in

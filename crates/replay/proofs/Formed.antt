@@ -1,7 +1,7 @@
 -- A list keeps the form exactly where it is the listing of some routes.
 use Rattle.std.proofs.Common.{◌≡◌, ℕ, ◌+◌, ◌≤◌, Bool, true, false, cond, not, eqb, List, [], ◌∷◌, ◌++◌, length, Some, None, Option, sym, refl, ap, ◌∙◌, subst, ap₂, ⊎_elim, append_assoc, arith}
 use Rattle.std.proofs.lemmas.Bool.{cases_eq, both_ways, and_from, cond-false, eq-eqb, ne_eqb, ltb-false, le-ltb, or_parts, or_from, and_left}
-use Rattle.std.specs.List.{AllByRecursion as All}
+use Rattle.std.specs.List.{AllByRecursion}
 use Rattle.replay.specs.Listing.{written, breaks, misplaced}
 
 -- a customer of n
@@ -9,7 +9,7 @@ abbrev pub In : ℕ → ℕ → Type 0
 In n c = (1 ≤ c) × (c ≤ n)
 
 abbrev pub Stops : ℕ → List ℕ → Type 0
-Stops n route = (1 ≤ length route) × All (In n) route
+Stops n route = (1 ≤ length route) × AllByRecursion (In n) route
 
 pub unfound : {X : Type 0} (b : Bool) (x : X) (o : Option X) → cond b (Some x) o ≡ None → (b ≡ false) × (o ≡ None)
 unfound true x o e = absurd (let z : ◌≡◌ {A = ℕ} 0 1 = cc in omega arith)
@@ -24,13 +24,13 @@ pub record Begun (n : ℕ) (l : List ℕ) : Type 0 where
   pub route : List ℕ
   pub routes : List (List ℕ)
   pub is : l ≡ route ++ (0 ∷ written routes)
-  pub stops : All (In n) route
-  pub others : All (Stops n) routes
+  pub stops : AllByRecursion (In n) route
+  pub others : AllByRecursion (Stops n) routes
 
 pub record Whole (n : ℕ) (l : List ℕ) : Type 0 where
   pub routes : List (List ℕ)
   pub is : l ≡ written routes
-  pub stops : All (Stops n) routes
+  pub stops : AllByRecursion (Stops n) routes
 
 abbrev Left : ℕ → Bool → List ℕ → Type 0
 Left n true l = Begun n l
@@ -72,7 +72,7 @@ past_stop : (n : ℕ) (b : Bool) (k j : ℕ) (l : List ℕ) → In n j → mispl
 past_stop n b k j l here rest =
     cond-false _ _ _ (stop_fits n b j here) ∙ ap (λ x. misplaced n (not x) (k + 1) l) (ne_eqb j 0 (λ e. omega (arith, here.0))) ∙ rest
 
-begun_fits : (n : ℕ) (route l : List ℕ) → All (In n) route → ((k : ℕ) → 1 ≤ k → misplaced n false k l ≡ None) → (k : ℕ) → misplaced n true k (route ++ (0 ∷ l)) ≡ None
+begun_fits : (n : ℕ) (route l : List ℕ) → AllByRecursion (In n) route → ((k : ℕ) → 1 ≤ k → misplaced n false k l ≡ None) → (k : ℕ) → misplaced n true k (route ++ (0 ∷ l)) ≡ None
 begun_fits n [] l all after k = cond-false _ _ _ (home_fits n) ∙ after (k + 1) (omega arith)
 begun_fits n (j ∷ route) l all after k = past_stop n true k j (route ++ (0 ∷ l)) all.0 (begun_fits n route l all.1 after (k + 1))
 
@@ -80,13 +80,13 @@ route_fits : (n : ℕ) (route l : List ℕ) → Stops n route → ((k : ℕ) →
 route_fits n [] l stops after k = absurd (omega (arith, stops.0))
 route_fits n (j ∷ route) l stops after k = past_stop n false k j (route ++ (0 ∷ l)) stops.1.0 (begun_fits n route l stops.1.1 after (k + 1))
 
-after_routes : (n : ℕ) (routes : List (List ℕ)) → All (Stops n) routes → (k : ℕ) → 1 ≤ k → misplaced n false k (written routes) ≡ None
+after_routes : (n : ℕ) (routes : List (List ℕ)) → AllByRecursion (Stops n) routes → (k : ℕ) → 1 ≤ k → misplaced n false k (written routes) ≡ None
 after_routes n [] all k some = cond-false _ _ _ (ne_eqb k 0 (λ e. omega arith))
 after_routes n (route ∷ routes) all k some =
     ap (misplaced n false k) (written_cons route routes) ∙ route_fits n route (written routes) all.0 (after_routes n routes all.1) k
 
 -- the listing of one or more routes keeps the form
-pub fits : (n : ℕ) (routes : List (List ℕ)) → All (Stops n) routes → 1 ≤ length routes → misplaced n false 0 (written routes) ≡ None
+pub fits : (n : ℕ) (routes : List (List ℕ)) → AllByRecursion (Stops n) routes → 1 ≤ length routes → misplaced n false 0 (written routes) ≡ None
 fits n [] all some = absurd (omega arith)
 fits n (route ∷ routes) all some =
     ap (misplaced n false 0) (written_cons route routes) ∙ route_fits n route (written routes) all.0 (after_routes n routes all.1) 0

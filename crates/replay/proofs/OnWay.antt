@@ -1,7 +1,7 @@
 -- Driving as early as possible succeeds exactly where some schedule does.
 use Rattle.std.proofs.Common.{◌≡◌, ℕ, ◌+◌, ◌≤◌, max, Bool, true, false, cond, List, [], ◌∷◌, ◌++◌, is_some, Some, None, Ok, Err, Option, Result, sym, refl, ap, ◌∙◌, ap₂, arith}
 use Rattle.std.proofs.lemmas.Bool.{cond-false, ne_eqb, ltb-false}
-use Rattle.std.specs.List.{AllByRecursion as All}
+use Rattle.std.specs.List.{AllByRecursion}
 use Rattle.routing.specs.declared.cells.Place.{Place}
 use Rattle.routing.specs.Network.{Meaning, Limits}
 use Rattle.routing.specs.Routes.{OnTime, route_load, cost_from, arc_cost, place_load}
@@ -37,7 +37,7 @@ module _ (m : Meaning) (lawful : Limits m) (depot : Place) (depot_is : m.place 0
   After i cost routes rest l k = driven m (ready_van depot (cost + cost_from m i rest) (routes + 1)) k l
 
   -- a route that some schedule serves is driven home
-  pub drives : {i late : ℕ} {rest : List ℕ} → OnTime m i late rest → (ready load cost routes : ℕ) (l : List ℕ) → ready ≤ late → All (λ c. 1 ≤ c) rest → load + route_load m rest ≤ m.capacity → (k : ℕ) → (k' : ℕ) × (driven m (van i ready load cost routes) k (rest ++ (0 ∷ l)) ≡ After i cost routes rest l k')
+  pub drives : {i late : ℕ} {rest : List ℕ} → OnTime m i late rest → (ready load cost routes : ℕ) (l : List ℕ) → ready ≤ late → AllByRecursion (λ c. 1 ≤ c) rest → load + route_load m rest ≤ m.capacity → (k : ℕ) → (k' : ℕ) × (driven m (van i ready load cost routes) k (rest ++ (0 ∷ l)) ≡ After i cost routes rest l k')
   drives {i} (home d back there closed) ready load cost routes l early all light k =
       let same : d.reached ≡ depot = cc in
       let bare = (lawful.depot d.reached d.reached_is).0 in
@@ -93,7 +93,7 @@ module _ (m : Meaning) (lawful : Limits m) (depot : Place) (depot_is : m.place 0
     pub after : After i cost routes rest l next ≡ Ok p
 
   -- a route that is driven home has a schedule and is light enough
-  pub homed : (rest l : List ℕ) (i ready load cost routes : ℕ) → All (λ c. 1 ≤ c) rest → (k : ℕ) (p : Priced) → driven m (van i ready load cost routes) k (rest ++ (0 ∷ l)) ≡ Ok p → Homed i ready load cost routes rest l p
+  pub homed : (rest l : List ℕ) (i ready load cost routes : ℕ) → AllByRecursion (λ c. 1 ≤ c) rest → (k : ℕ) (p : Priced) → driven m (van i ready load cost routes) k (rest ++ (0 ∷ l)) ≡ Ok p → Homed i ready load cost routes rest l p
   homed [] l i ready load cost routes all k p e =
       let on = went_on _ _ p e in
       let a = passed (van i ready load cost routes) k 0 (m.arc i 0) (m.place 0) on.0 on.1 in

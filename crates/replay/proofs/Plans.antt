@@ -2,7 +2,7 @@
 use Rattle.std.proofs.Common.{◌≡◌, ℕ, ◌+◌, ◌≤◌, Bool, true, false, cond, ◌||◌, ltb, List, [], ◌∷◌, ◌++◌, length, Some, None, Ok, Err, Option, Result, sym, refl, ap, ◌∙◌, ap₂, ⊎_elim, arith, length-append}
 use Rattle.std.proofs.ByRecursion.{All-weaker, All-append}
 use Rattle.std.proofs.lemmas.Bool.{cases_lt, cond-false, le-ltb, ltb-false, or_from, or_parts}
-use Rattle.std.specs.List.{AllByRecursion as All}
+use Rattle.std.specs.List.{AllByRecursion}
 use Rattle.routing.specs.declared.cells.Place.{Place}
 use Rattle.routing.specs.Network.{Meaning, Limits}
 use Rattle.routing.specs.Routes.{Schedule, Drivable, Plan, count, visits, route_load, route_cost, plan_cost}
@@ -41,10 +41,10 @@ counted true f q p e = absurd (let z : ◌≡◌ {A = ℕ} 0 1 = cc in omega ari
 counted false f q p e = (refl, ok_same q p e)
 
 module _ (m : Meaning) (lawful : Limits m) (depot : Place) (depot_is : m.place 0 ≡ Some depot) where
-  positive : (stops : List ℕ) → All (In m.customers) stops → All (λ c. 1 ≤ c) stops
+  positive : (stops : List ℕ) → AllByRecursion (In m.customers) stops → AllByRecursion (λ c. 1 ≤ c) stops
   positive stops all = All-weaker (In m.customers) (λ c. 1 ≤ c) (λ c h. h.0) stops all
 
-  plan_driven : (routes : List (List ℕ)) → All (Drivable m) routes → (cost so_far k : ℕ) → From m depot cost so_far k (written routes) ≡ Ok (sum_of (cost + plan_cost m routes) (so_far + length routes))
+  plan_driven : (routes : List (List ℕ)) → AllByRecursion (Drivable m) routes → (cost so_far k : ℕ) → From m depot cost so_far k (written routes) ≡ Ok (sum_of (cost + plan_cost m routes) (so_far + length routes))
   plan_driven [] all cost so_far k = ap₂ (λ c r. Ok (sum_of c r)) (omega arith) (omega arith)
   plan_driven (route ∷ routes) all cost so_far k =
       let d = all.0 in
@@ -55,11 +55,11 @@ module _ (m : Meaning) (lawful : Limits m) (depot : Place) (depot_is : m.place 0
       ap (From m depot cost so_far k) (written_cons route routes) ∙ first.1 ∙ plan_driven routes all.1 (cost + route_cost m route) (so_far + 1) first.0 ∙ ap₂ (λ c r. Ok (sum_of c r)) (omega arith) (omega arith)
 
   record Sound (routes : List (List ℕ)) (cost so_far : ℕ) (p : Priced) : Type 0 where
-    light : All (λ route. route_load m route ≤ m.capacity) routes
-    schedules : All (Schedule m) routes
+    light : AllByRecursion (λ route. route_load m route ≤ m.capacity) routes
+    schedules : AllByRecursion (Schedule m) routes
     is : p ≡ sum_of (cost + plan_cost m routes) (so_far + length routes)
 
-  sound : (routes : List (List ℕ)) → All (Stops m.customers) routes → (cost so_far k : ℕ) (p : Priced) → From m depot cost so_far k (written routes) ≡ Ok p → Sound routes cost so_far p
+  sound : (routes : List (List ℕ)) → AllByRecursion (Stops m.customers) routes → (cost so_far k : ℕ) (p : Priced) → From m depot cost so_far k (written routes) ≡ Ok p → Sound routes cost so_far p
   sound [] all cost so_far k p e =
       record { light = tt; schedules = tt; is = sym (ok_same _ _ e) ∙ ap₂ sum_of (omega arith) (omega arith) }
   sound (route ∷ routes) all cost so_far k p e =
@@ -72,16 +72,16 @@ module _ (m : Meaning) (lawful : Limits m) (depot : Place) (depot_is : m.place 0
       }
 
 -- the customers of routes
-all_visits : (n : ℕ) (routes : List (List ℕ)) → All (Stops n) routes → All (In n) (visits routes)
+all_visits : (n : ℕ) (routes : List (List ℕ)) → AllByRecursion (Stops n) routes → AllByRecursion (In n) (visits routes)
 all_visits n [] all = tt
 all_visits n (route ∷ routes) all = All-append (In n) route (visits routes) all.0.1 (all_visits n routes all.1)
 
 module _ (m : Meaning) where
-  distinct : (route : List ℕ) (others : ℕ → ℕ) → All (In m.customers) route → ((c : ℕ) → 1 ≤ c → count c route + others c ≤ 1) → (c : ℕ) → count c route ≤ 1
+  distinct : (route : List ℕ) (others : ℕ → ℕ) → AllByRecursion (In m.customers) route → ((c : ℕ) → 1 ≤ c → count c route + others c ≤ 1) → (c : ℕ) → count c route ≤ 1
   distinct route others all once c =
       ⊎_elim (λ some. omega (arith, once c some)) (λ none. omega (arith, count_none c route (All-weaker (In m.customers) (λ x. c ≡ x → ⊥) (λ x h e. omega (arith, h.0)) route all))) (cases_lt 0 c)
 
-  drivables : (routes : List (List ℕ)) → All (Stops m.customers) routes → ((c : ℕ) → 1 ≤ c → count c (visits routes) ≤ 1) → All (λ route. route_load m route ≤ m.capacity) routes → All (Schedule m) routes → All (Drivable m) routes
+  drivables : (routes : List (List ℕ)) → AllByRecursion (Stops m.customers) routes → ((c : ℕ) → 1 ≤ c → count c (visits routes) ≤ 1) → AllByRecursion (λ route. route_load m route ≤ m.capacity) routes → AllByRecursion (Schedule m) routes → AllByRecursion (Drivable m) routes
   drivables [] stops once light schedules = tt
   drivables (route ∷ routes) stops once light schedules =
       let split : (c : ℕ) → 1 ≤ c → count c route + count c (visits routes) ≤ 1 = λ c some. omega (arith, once c some, count_append c route (visits routes)) in (
@@ -93,14 +93,14 @@ module _ (m : Meaning) where
         drivables routes stops.1 (λ c some. omega (arith, split c some)) light.1 schedules.1,
       )
 
-  stops_of : (routes : List (List ℕ)) → All (Drivable m) routes → All (Stops m.customers) routes
+  stops_of : (routes : List (List ℕ)) → AllByRecursion (Drivable m) routes → AllByRecursion (Stops m.customers) routes
   stops_of routes all = All-weaker (Drivable m) (Stops m.customers) (λ route d. (d.route.some, d.route.customers)) routes all
 
 -- where the form is kept and each customer stands once
 pub record Listed (n : ℕ) (l : List ℕ) : Type 0 where
   pub routes : List (List ℕ)
   pub is : l ≡ written routes
-  pub stops : All (Stops n) routes
+  pub stops : AllByRecursion (Stops n) routes
   pub few : (c : ℕ) → 1 ≤ c → count c (visits routes) ≤ 1
   pub once : (c : ℕ) → 1 ≤ c → c ≤ n → count c (visits routes) ≡ 1
 
@@ -117,7 +117,7 @@ listed n l placed distinct all =
       once = λ c some high. omega (arith, few c some, none_missing l 1 n all c some (omega arith), same c some);
     }
 
-length_written : (n : ℕ) (routes : List (List ℕ)) → All (Stops n) routes → (length (written routes) ≡ length (visits routes) + length routes) × (length routes ≤ length (visits routes))
+length_written : (n : ℕ) (routes : List (List ℕ)) → AllByRecursion (Stops n) routes → (length (written routes) ≡ length (visits routes) + length routes) × (length routes ≤ length (visits routes))
 length_written n [] all = (refl, omega arith)
 length_written n (route ∷ routes) all =
     let rest = length_written n routes all.1 in

@@ -1,7 +1,7 @@
 -- A listing of routes visits every customer once exactly where nothing is found repeated or missing.
 use Rattle.std.proofs.Common.{◌≡◌, ℕ, zero, suc, ◌+◌, ◌<◌, ◌≤◌, false, ◌&&◌, ltb, List, [], ◌∷◌, ◌++◌, None, sym, refl, ap, ◌∙◌, ⊎_elim, arith}
 use Rattle.std.proofs.lemmas.Bool.{cases_eq, cases_lt, cond-false, ne_eqb, eqb-false, ltb-false, le-ltb, and_cases, and_right}
-use Rattle.std.specs.List.{AllByRecursion as All}
+use Rattle.std.specs.List.{AllByRecursion}
 use Rattle.routing.specs.Routes.{count, visits}
 use Rattle.routing.proofs.Counts.{count_append, count_same, count_other, count_push_same, count_push_other}
 use Rattle.replay.specs.Listing.{written, repeated, missing}
@@ -54,6 +54,6 @@ count_written c some [] = refl
 count_written c some (route ∷ routes) =
     omega (arith, count_append c (route ++ (0 ∷ [])) (written routes), count_push_other c 0 route (λ e. omega arith), count_append c route (visits routes), count_written c some routes)
 
-pub count_none : (c : ℕ) (xs : List ℕ) → All (λ x. c ≡ x → ⊥) xs → count c xs ≡ 0
+pub count_none : (c : ℕ) (xs : List ℕ) → AllByRecursion (λ x. c ≡ x → ⊥) xs → count c xs ≡ 0
 count_none c [] all = refl
 count_none c (x ∷ xs) all = count_other c x xs all.0 ∙ count_none c xs all.1

@@ -1,7 +1,7 @@
 -- Lemmas on `count` and `total`: how often a number stands in a list, and sums over lists.
 use Rattle.std.proofs.Common.{◌≡◌, ℕ, zero, suc, ◌+◌, ◌*◌, ◌≤◌, cond, eqb, List, [], ◌∷◌, ◌++◌, length, sym, refl, ap, ◌∙◌, ⊎_elim, add-mul, one-mul, zero-mul, arith}
 use Rattle.std.proofs.lemmas.Bool.{cases_eq, eq-eqb, ne_eqb, cond-true, cond-false}
-use Rattle.std.specs.List.{AllByRecursion as All}
+use Rattle.std.specs.List.{AllByRecursion}
 use Rattle.routing.specs.Routes.{count, total}
 
 pub count_append : (c : ℕ) (xs ys : List ℕ) → count c (xs ++ ys) ≡ count c xs + count c ys
@@ -62,7 +62,7 @@ upto_one f x (suc n) low high =
     (cases_eq x (suc n))
 
 -- a sum over customers, taken customer by customer
-pub total_upto : (f : ℕ → ℕ) (n : ℕ) (xs : List ℕ) → All (λ c. (1 ≤ c) × (c ≤ n)) xs → total f xs ≡ upto (λ c. count c xs * f c) n
+pub total_upto : (f : ℕ → ℕ) (n : ℕ) (xs : List ℕ) → AllByRecursion (λ c. (1 ≤ c) × (c ≤ n)) xs → total f xs ≡ upto (λ c. count c xs * f c) n
 unfolding at_one
 total_upto f n [] all = sym (upto_none (λ c. 0 * f c) n (λ c low high. zero-mul (f c)))
 total_upto f n (x ∷ xs) all =
@@ -75,7 +75,7 @@ total_upto f n (x ∷ xs) all =
     )
 
 -- where each customer stands once
-pub total_once : (f : ℕ → ℕ) (n : ℕ) (xs : List ℕ) → All (λ c. (1 ≤ c) × (c ≤ n)) xs → ((c : ℕ) → 1 ≤ c → c ≤ n → count c xs ≡ 1) → total f xs ≡ upto f n
+pub total_once : (f : ℕ → ℕ) (n : ℕ) (xs : List ℕ) → AllByRecursion (λ c. (1 ≤ c) × (c ≤ n)) xs → ((c : ℕ) → 1 ≤ c → c ≤ n → count c xs ≡ 1) → total f xs ≡ upto f n
 total_once f n xs all once =
     total_upto f n xs all ∙ upto_same (λ c. count c xs * f c) f n (λ c low high. ap (λ k. k * f c) (once c low high) ∙ one-mul (f c))
 
@@ -88,5 +88,5 @@ upto_ones zero = refl
 upto_ones (suc n) = omega (arith, upto_ones n)
 
 -- as many as there are customers
-pub length_once : (n : ℕ) (xs : List ℕ) → All (λ c. (1 ≤ c) × (c ≤ n)) xs → ((c : ℕ) → 1 ≤ c → c ≤ n → count c xs ≡ 1) → length xs ≡ n
+pub length_once : (n : ℕ) (xs : List ℕ) → AllByRecursion (λ c. (1 ≤ c) × (c ≤ n)) xs → ((c : ℕ) → 1 ≤ c → c ≤ n → count c xs ≡ 1) → length xs ≡ n
 length_once n xs all once = sym (total_ones xs) ∙ total_once (λ _. 1) n xs all once ∙ upto_ones n

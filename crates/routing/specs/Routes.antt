@@ -1,6 +1,6 @@
 -- Routes, schedules and plans of the vehicle routing problem with time windows, over a network's meaning.
 use Rattle.std.specs.Prelude.{◌≡◌, ℕ, ◌+◌, ◌≤◌, cond, List, [], ◌∷◌, length, Some, None, Option, ◌==◌}
-use Rattle.std.specs.List.{flat_map, AllByRecursion as All}
+use Rattle.std.specs.List.{flat_map, AllByRecursion}
 use Rattle.routing.specs.declared.cells.Place.{Place}
 use Rattle.routing.specs.Network.{Meaning}
 
@@ -63,7 +63,7 @@ Customer m c = (1 ≤ c) × (c ≤ m.customers)
 -- a route of one or more distinct customers
 pub record Route (m : Meaning) (stops : List ℕ) : Type 0 where
   pub some : 1 ≤ length stops
-  pub customers : All (Customer m) stops
+  pub customers : AllByRecursion (Customer m) stops
   pub distinct : (c : ℕ) → count c stops ≤ 1
 
 -- a route that can be driven: its arcs exist and it has a schedule, within the capacity
@@ -79,7 +79,7 @@ visits = flat_map (λ route. route)
 pub record Plan (m : Meaning) (routes : List (List ℕ)) : Type 0 where
   pub least : m.fleet.0 ≤ length routes
   pub most : length routes ≤ m.fleet.1
-  pub drivable : All (Drivable m) routes
+  pub drivable : AllByRecursion (Drivable m) routes
   pub once : (c : ℕ) → Customer m c → count c (visits routes) ≡ 1
 
 abbrev pub plan_cost : Meaning → List (List ℕ) → ℕ

@@ -1,6 +1,6 @@
 -- A listing's text is its numbers written out.
 use Rattle.std.proofs.Common.{◌≡◌, ℕ, zero, suc, ◌≤◌, List, [], ◌∷◌, map, length, Ok, Err, decimal, Result, refl, ap, ◌∙◌, subst, arith}
-use Rattle.std.specs.List.{AllByRecursion as All}
+use Rattle.std.specs.List.{AllByRecursion}
 use Rattle.texts.specs.declared.faults.TextFault.{TextFault}
 use Rattle.texts.specs.Tokens.{ahead, words}
 use Rattle.texts.specs.Numbers.{numeral, within}
@@ -23,7 +23,7 @@ listed_is (Ok n) (Ok ms) ns e = record { first = n; rest = ms; first_is = refl; 
 pub record Spelt (most : ℕ) (ws : List (ℕ × List ℕ)) (ns : List ℕ) : Type 0 where
   pub words : map (λ (w : ℕ × List ℕ). w.1) ws ≡ map decimal ns
   pub few : length ns ≤ most
-  pub small : All (λ n. n ≤ 255) ns
+  pub small : AllByRecursion (λ n. n ≤ 255) ns
 
 sound : (most : ℕ) (ws : List (ℕ × List ℕ)) (ns : List ℕ) → listing_judged most ws ≡ Ok ns → Spelt most ws ns
 sound most [] ns e = let z : [] ≡ ns = cc in subst (Spelt most []) z (record { words = refl; few = omega arith; small = tt })

@@ -1,6 +1,6 @@
 -- Cases and plans written out: the words and line feeds of their texts, without offsets.
 use Rattle.std.specs.Prelude.{◌≡◌, ℕ, zero, suc, ◌+◌, ◌-◌, ◌*◌, ◌≤◌, cond, List, [], ◌∷◌, ◌++◌, map, length, take, drop, Some, None, Ok, decimal, Option, ◌==◌, ◌≢◌, slice_index}
-use Rattle.std.specs.List.{flat_map, AllByRecursion as All}
+use Rattle.std.specs.List.{flat_map, AllByRecursion}
 use Rattle.texts.specs.Tokens.{Token, word, feed, ahead, words}
 use Rattle.texts.specs.Lines.{Heading, Stop}
 use Rattle.texts.specs.Cases.{Case, side, case_judged}
@@ -98,7 +98,7 @@ CasesAsWritten text = (c : Case) → (case_judged text ≡ Ok c → CaseText tex
 pub record PlanText (text : List ℕ) (ns : List ℕ) : Type 0 where
   pub words : map (λ (w : ℕ × List ℕ). w.1) (words (ahead text 0)) ≡ map decimal ns
   pub few : length ns ≤ 120
-  pub small : All (λ n. n ≤ 255) ns
+  pub small : AllByRecursion (λ n. n ≤ 255) ns
 
 abbrev pub PlansAsWritten : List ℕ → Type 0
 PlansAsWritten text = (ns : List ℕ) → (plan_judged text ≡ Ok ns → PlanText text ns) × (PlanText text ns → plan_judged text ≡ Ok ns)

@@ -1,6 +1,6 @@
 -- Numbers written to bytes and read back.
 use Rattle.std.proofs.Common.{◌≡◌, ℕ, ◌+◌, ◌*◌, ◌/◌, ◌%◌, ◌<◌, ◌≤◌, List, [], ◌∷◌, ◌++◌, length, get_or, drop, sym, ap, ◌∙◌, arith}
-use Rattle.std.specs.List.{AllByRecursion as All}
+use Rattle.std.specs.List.{AllByRecursion}
 use Rattle.std.proofs.ByRecursion.{All-get_or}
 use Rattle.std.proofs.lemmas.List.{drop_more, get_or-append-add}
 use Rattle.trees.specs.Numbers.{short_at, word_at, short_bytes, word_bytes}
@@ -58,11 +58,11 @@ word_digits a b c d ha hb hc =
     cc (first.0, second.0, third.0, third.1)
 
 -- a number read and written back
-pub short_here : (l : List ℕ) (p : ℕ) → All Byte l → p + 2 ≤ length l → short_bytes (short_at l p) ++ drop (p + 2) l ≡ drop p l
+pub short_here : (l : List ℕ) (p : ℕ) → AllByRecursion Byte l → p + 2 ≤ length l → short_bytes (short_at l p) ++ drop (p + 2) l ≡ drop p l
 short_here l p all h =
     ap (λ ds. ds ++ drop (p + 2) l) (short_digits (get_or l p 0) (get_or l (p + 1) 0) (All-get_or Byte l p 0 (omega arith) all)) ∙ sym (drop_two l p h)
 
-pub word_here : (l : List ℕ) (p : ℕ) → All Byte l → p + 4 ≤ length l → word_bytes (word_at l p) ++ drop (p + 4) l ≡ drop p l
+pub word_here : (l : List ℕ) (p : ℕ) → AllByRecursion Byte l → p + 4 ≤ length l → word_bytes (word_at l p) ++ drop (p + 4) l ≡ drop p l
 word_here l p all h =
     let next : p + 4 ≡ p + 2 + 2 = omega arith in
     ap (λ ds. ds ++ drop (p + 4) l)

@@ -1,6 +1,6 @@
 -- A granted file is the one of the records that its pairs find.
 use Rattle.std.proofs.Common.{◌≡◌, ℕ, zero, suc, ◌+◌, ◌*◌, ◌≤◌, Bool, true, false, cond, not, ◌||◌, eqb, List, [], ◌∷◌, ◌++◌, length, take, drop, Ok, Err, Result, sym, refl, ap, ◌∙◌, arith}
-use Rattle.std.specs.List.{AllByRecursion as All}
+use Rattle.std.specs.List.{AllByRecursion}
 use Rattle.std.proofs.lemmas.List.{append-nil, take_all, length-take-le, length-drop, take-append-drop, drop-drop}
 use Rattle.std.proofs.lemmas.Bool.{and_parts, eqb-true, ltb-true, leb-true}
 use Rattle.trees.specs.declared.faults.TreeFault.{TreeFault}
@@ -59,7 +59,7 @@ part_length bytes k from more e =
     let w = ends_within bytes k from more e in
     length-take-le (size_of bytes k) (drop (offset_of bytes k) bytes) (simp length-drop (omega (arith, f.offset)))
 
-pub parts_filled : (bytes : List ℕ) (k from more : ℕ) → pairs_answer bytes k from more ≡ Ok tt → All (λ r. 1 ≤ length r) (parts bytes k more)
+pub parts_filled : (bytes : List ℕ) (k from more : ℕ) → pairs_answer bytes k from more ≡ Ok tt → AllByRecursion (λ r. 1 ≤ length r) (parts bytes k more)
 parts_filled bytes k from zero e = tt
 parts_filled bytes k from (suc more) e =
     let f = first_fits bytes k from more e in
@@ -78,7 +78,7 @@ parts_contents bytes k from (suc more) e =
     ∙ take-append-drop size (drop from bytes)
 
 -- their directory is the file's
-pub parts_directory : (bytes : List ℕ) (k from more : ℕ) → All Byte bytes → pairs_answer bytes k from more ≡ Ok tt → directory from (parts bytes k more) ++ drop (8 + 8 * (k + more)) bytes ≡ drop (8 + 8 * k) bytes
+pub parts_directory : (bytes : List ℕ) (k from more : ℕ) → AllByRecursion Byte bytes → pairs_answer bytes k from more ≡ Ok tt → directory from (parts bytes k more) ++ drop (8 + 8 * (k + more)) bytes ≡ drop (8 + 8 * k) bytes
 parts_directory bytes k from zero all e = let z : 8 + 8 * (k + 0) ≡ 8 + 8 * k = omega arith in ap (λ i. drop i bytes) z
 parts_directory bytes k from (suc more) all e =
     let f = first_fits bytes k from more e in

@@ -1,6 +1,6 @@
 -- The head of a granted file.
 use Rattle.std.proofs.Common.{◌≡◌, ℕ, zero, suc, ◌≤◌, Bool, true, false, cond, not, ◌||◌, eqb, ltb, List, ◌∷◌, ◌++◌, length, get_or, take, drop, Some, None, Ok, Err, Option, Result, sym, refl, ap, ◌∙◌, arith}
-use Rattle.std.specs.List.{AllByRecursion as All}
+use Rattle.std.specs.List.{AllByRecursion}
 use Rattle.std.proofs.lemmas.Slice.Eq.{bytes_eq-Decides}
 use Rattle.std.proofs.lemmas.List.{take-append-drop}
 use Rattle.std.proofs.lemmas.Bool.{cond_both, or_parts, not-false, eqb-true, eqb-false, ltb-false}
@@ -61,7 +61,7 @@ pub record Opened (bytes : List ℕ) (n : ℕ) (h : TreeHead) : Type 0 where
   pub some : 1 ≤ h.count
   pub most : h.count ≤ 2000
 
-pub is_opened : (bytes : List ℕ) (n : ℕ) (h : TreeHead) → All Byte bytes → head_answer bytes n ≡ Ok h → Opened bytes n h
+pub is_opened : (bytes : List ℕ) (n : ℕ) (h : TreeHead) → AllByRecursion Byte bytes → head_answer bytes n ≡ Ok h → Opened bytes n h
 is_opened bytes n h all e =
     let a = ok_else _ _ (kinded bytes n (kind_of (get_or bytes 4 0))) h e in
     let b = or_parts _ _ a.0 in

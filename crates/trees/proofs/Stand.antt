@@ -1,6 +1,6 @@
 -- Records that stand in a file one after another, as their directory says.
 use Rattle.std.proofs.Common.{◌≡◌, ℕ, zero, suc, ◌+◌, ◌*◌, ◌<◌, ◌≤◌, Bool, true, not, ◌||◌, eqb, List, [], ◌∷◌, ◌++◌, length, get_or, take, drop, Ok, refl, ap, ◌∙◌, arith}
-use Rattle.std.specs.List.{AllByRecursion as All}
+use Rattle.std.specs.List.{AllByRecursion}
 use Rattle.std.proofs.lemmas.List.{append_assoc, length-append, take_at, drop_at}
 use Rattle.std.proofs.lemmas.Bool.{cond-true, and_from, or_left, eq-eqb, ne_eqb, lt-ltb, le-leb, not_from_false}
 use Rattle.trees.specs.Numbers.{word_bytes}
@@ -81,7 +81,7 @@ last_ends : (bytes : List ℕ) (k from : ℕ) (r : List ℕ) (rs : List (List �
 last_ends bytes k from r [] size left = eq-eqb (from + size_of bytes k) (length bytes) (ap (λ n. from + n) size ∙ left_ends bytes (k + 1) (from + length r) left)
 last_ends bytes k from r (x ∷ rs) size left = or_left (not (eqb (length (x ∷ rs)) 0)) _ (not_from_false _ (ne_eqb (length (x ∷ rs)) 0 (λ e. omega arith)))
 
-pub pairs_granted : (bytes : List ℕ) (k from : ℕ) (rs : List (List ℕ)) → Left bytes k from rs → All (λ r. 1 ≤ length r) rs → pairs_answer bytes k from (length rs) ≡ Ok tt
+pub pairs_granted : (bytes : List ℕ) (k from : ℕ) (rs : List (List ℕ)) → Left bytes k from rs → AllByRecursion (λ r. 1 ≤ length r) rs → pairs_answer bytes k from (length rs) ≡ Ok tt
 pairs_granted bytes k from [] s all = refl
 pairs_granted bytes k from (r ∷ rs) s all =
     let first = left_first bytes k from r rs s in

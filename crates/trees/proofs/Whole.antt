@@ -1,6 +1,6 @@
 -- A file is granted exactly when it is the one of a tree's records.
 use Rattle.std.proofs.Common.{◌≡◌, ℕ, zero, suc, ◌+◌, ◌*◌, ◌<◌, ◌≤◌, List, [], ◌++◌, length, get_or, drop, Some, None, Ok, Option, Result, sym, refl, ap, ◌∙◌, subst, arith, w8, Fits, Bor}
-use Rattle.std.specs.List.{AllByRecursion as All}
+use Rattle.std.specs.List.{AllByRecursion}
 use Rattle.std.proofs.ByRecursion.{All-get_or, All-from_get_or}
 use Rattle.trees.specs.declared.faults.TreeFault.{TreeFault}
 use Rattle.trees.specs.declared.head.Kind.{Kind}
@@ -23,7 +23,7 @@ record Tree (bytes : List ℕ) (n : ℕ) (h : TreeHead) : Type 0 where
   count : length rs ≡ h.count
   is : bytes ≡ tree_bytes h.kind n rs
 
-made_tree : (bytes : List ℕ) (n : ℕ) (h : TreeHead) → All Byte bytes → head_answer bytes n ≡ Ok h → pairs_answer bytes 0 (8 + 8 * h.count) h.count ≡ Ok tt → Tree bytes n h
+made_tree : (bytes : List ℕ) (n : ℕ) (h : TreeHead) → AllByRecursion Byte bytes → head_answer bytes n ≡ Ok h → pairs_answer bytes 0 (8 + 8 * h.count) h.count ≡ Ok tt → Tree bytes n h
 made_tree bytes n h all opened granted =
     let o = is_opened bytes n h all opened in
     let rs = parts bytes 0 h.count in
@@ -43,7 +43,7 @@ made_tree bytes n h all opened granted =
           ∙ ap (λ c. head_bytes h.kind n c ++ (directory (8 + 8 * c) rs ++ contents rs)) (sym many);
     }
 
-is_tree : (bytes : List ℕ) (n : ℕ) (h : TreeHead) → All Byte bytes → tree_answer bytes n ≡ Ok h → Tree bytes n h
+is_tree : (bytes : List ℕ) (n : ℕ) (h : TreeHead) → AllByRecursion Byte bytes → tree_answer bytes n ≡ Ok h → Tree bytes n h
 is_tree bytes n h all e =
     let a = ok_after (head_answer bytes n) (λ g. after (pairs_answer bytes 0 (8 + 8 * g.count) g.count) λ _. Ok g) h e in
     let g : TreeHead = a.0 in
@@ -62,7 +62,7 @@ recorded bytes n h t k l =
 
 pub reads_tree : (bytes : List ℕ) (n : ℕ) (r : Result TreeHead TreeFault) → ((i : ℕ) → Fits w8 (get_or bytes i 0)) → r ≡ tree_answer bytes n → ReadsTree bytes n r
 reads_tree bytes n r typed e =
-    let all : All Byte bytes = All-from_get_or Byte bytes 0 (λ i _. omega (arith, typed i)) in
+    let all : AllByRecursion Byte bytes = All-from_get_or Byte bytes 0 (λ i _. omega (arith, typed i)) in
     record {
       tree_is_granted = λ kind rs fit is. (e ∙ ap (λ b. tree_answer b n) is ∙ tree_granted kind n rs fit, found bytes n kind rs is);
       granted_is_tree = λ h ok. let t = is_tree bytes n h all (sym e ∙ ok) in (t.rs, t.fit, t.count, t.is, found bytes n h.kind t.rs t.is);

@@ -1,6 +1,6 @@
 -- A file is granted exactly when it is the one of a tree's records, each found by its pair.
 use Rattle.std.specs.Prelude.{◌≡◌, ℕ, ◌+◌, ◌*◌, ◌<◌, ◌≤◌, List, [], ◌∷◌, ◌++◌, length, take, Some, Ok, Result, slice_index_or}
-use Rattle.std.specs.List.{flat_map, AllByRecursion as All}
+use Rattle.std.specs.List.{flat_map, AllByRecursion}
 use Rattle.trees.specs.declared.faults.TreeFault.{TreeFault}
 use Rattle.trees.specs.declared.head.Kind.{Kind}
 use Rattle.trees.specs.declared.head.Kind.TheVariants.{Time, Load, TimeLoad}
@@ -34,7 +34,7 @@ tree_bytes kind n rs = head_bytes kind n (length rs) ++ (directory (8 + 8 * leng
 pub record Records (rs : List (List ℕ)) : Type 0 where
   pub some : 1 ≤ length rs
   pub most : length rs ≤ 2000
-  pub filled : All (λ r. 1 ≤ length r) rs
+  pub filled : AllByRecursion (λ r. 1 ≤ length r) rs
 
 -- the offset of record k
 abbrev pub start_of : List (List ℕ) → ℕ → ℕ

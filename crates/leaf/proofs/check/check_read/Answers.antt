@@ -1,7 +1,7 @@
 use Rattle.std.proofs.Common.{◌≡◌, ◌+◌, ◌*◌, ◌≤◌, map, length, nat_abs, sym, refl, ap, ◌∙◌, subst, arith, w64}
 use Rattle.std.proofs.lemmas.Int.{to_z-of_z}
 use Rattle.std.proofs.lemmas.List.Sorted.{IsPermutation-refl, length_permutation}
-use Rattle.std.specs.List.{range_with_len, AllByRecursion as All}
+use Rattle.std.specs.List.{range_with_len, AllByRecursion}
 use Rattle.std.specs.List.Sorted.{IsPermutation}
 use Rattle.leaf.specs.Answer.{rule_answer}
 use Rattle.leaf.specs.Held.{leaf_with, decoded, picked, AllReadable}
@@ -14,7 +14,7 @@ pub sort_order-requires : goal.sort_order-requires
 sort_order-requires g c =
     let laid = c.requires.1.0 in
     let n = length c.args.order.now in
-    subst (All (Lies c.args.bytes.now c.args.layout)) (sym c.number_from_zero.ensures) (order_lies (range_with_len 0 n) n (IsPermutation-refl (range_with_len 0 n)) c.args.bytes.now c.args.layout laid.inside (omega (arith, laid.size)))
+    subst (AllByRecursion (Lies c.args.bytes.now c.args.layout)) (sym c.number_from_zero.ensures) (order_lies (range_with_len 0 n) n (IsPermutation-refl (range_with_len 0 n)) c.args.bytes.now c.args.layout laid.inside (omega (arith, laid.size)))
 
 pub find_ends-requires : goal.find_ends-requires
 find_ends-requires g c =
@@ -42,7 +42,7 @@ check_rule-requires g c =
     let long : n ≡ length order = sym (order_long order n all) in
     let up = subst (λ k. Up (stored bytes l) 1 k order) (sym (length_permutation c.number_from_zero.new.order order c.sort_order.ensures.shuffled)) c.sort_order.ensures.up in (
       record {
-        small = record { scale = small.scale; price = subst (λ z. nat_abs z ≤ 1000000000000000) (sym same) small.price; duals = small.duals; entries = subst (λ k. All (λ e. nat_abs e.value ≤ 1000000000000000) (map (decoded μ bytes) (picked bytes l (range_with_len 0 k)))) long small.entries };
+        small = record { scale = small.scale; price = subst (λ z. nat_abs z ≤ 1000000000000000) (sym same) small.price; duals = small.duals; entries = subst (λ k. AllByRecursion (λ e. nat_abs e.value ≤ 1000000000000000) (map (decoded μ bytes) (picked bytes l (range_with_len 0 k)))) long small.entries };
         indexed = record {
           shuffled = subst (λ k. IsPermutation (range_with_len 0 k) order) long all;
           rising = rising_from_up bytes l order up;

@@ -1,6 +1,6 @@
 use Rattle.std.proofs.Common.{◌+◌, length, Some, None, Ok, sym, ap, ◌∙◌, subst, arith, w64, to_z, of_z}
 use Rattle.std.proofs.lemmas.Int.{to_z-of_z}
-use Rattle.std.specs.List.{AllByRecursion as All}
+use Rattle.std.specs.List.{AllByRecursion}
 use Rattle.routing.proofs.Depot.{depot_there}
 use Rattle.leaf.specs.declared.faults.LeafFault.TheVariants.{Depot}
 use Rattle.leaf.specs.Answer.{depot_answer, unless, arc_ok, first_refused}
@@ -13,7 +13,7 @@ pub first_broken-requires : goal.first_broken-requires
 first_broken-requires g c =
     let net = c.args.network.now in
     let m = g.N.Network.meaning net in
-    (c.requires.0, (subst (All Cheap) (sym c.drives_from.ensures) (drives_cheap m (g.N.Network.limits net) 0), ap length c.drives_from.ensures ∙ drives_long m 0 ∙ ap (λ n. n + 1) (sym c.requires.1)))
+    (c.requires.0, (subst (AllByRecursion Cheap) (sym c.drives_from.ensures) (drives_cheap m (g.N.Network.limits net) 0), ap length c.drives_from.ensures ∙ drives_long m 0 ∙ ap (λ n. n + 1) (sym c.requires.1)))
 
 pub returns-in-Some-first_broken : goal.returns-in-Some-first_broken
 returns-in-Some-first_broken g c =

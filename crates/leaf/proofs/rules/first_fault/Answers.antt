@@ -1,6 +1,6 @@
 use Rattle.std.proofs.Common.{◌≡◌, ◌+◌, ◌-◌, ◌<◌, length, get_or, None, sym, refl, ap, ◌∙◌, subst, arith}
 use Rattle.std.proofs.ByRecursion.{All-get_or}
-use Rattle.std.specs.List.{AllByRecursion as All}
+use Rattle.std.specs.List.{AllByRecursion}
 use Rattle.leaf.specs.Answer.{drive_ok, first_refused}
 use Rattle.leaf.specs.Broken.{verdict, earliest, Faulted}
 use Rattle.leaf.specs.Held.{leaf_of, decoded, Cheap, Inside, Readable}
@@ -37,7 +37,7 @@ earlier-first-requires g c =
     let low = All-get_or (λ i. i < length order) order c.loop-index.index-index 0 c.loop-index-test.true (order_low order (length order) r.indexed.shuffled) in (
       r,
       (
-        subst (All Cheap) (sym c.turn_to.ensures) (drives_cheap m (g.N.Network.limits net) place),
+        subst (AllByRecursion Cheap) (sym c.turn_to.ensures) (drives_cheap m (g.N.Network.limits net) place),
         (
           ap length c.turn_to.ensures ∙ drives_long m place ∙ ap (λ n. n + 1) (sym c.requires.1),
           (
