@@ -2,13 +2,12 @@ pub mod AlongRoute
 pub mod Allowed
 pub mod Best
 pub mod Bounds
-pub mod Firsts
+pub mod Decoding
 pub mod Granted
-pub mod Picked
+pub mod Ordered
 pub mod Products
 pub mod Reading
 pub mod Rows
 pub mod Saying
-pub mod Settling
 pub mod Sought
 pub mod Sums

@@ -48,16 +48,3 @@ module _ {X : Type 0} (read : ℕ → Result X LeafFault) (at size n : ℕ) wher
   read_all xs k end long before =
       let none : n - k ≡ 0 = omega arith in
       sym before ∙ ap (λ more. with_front (take k xs) (read_each read (at + size * k) size more)) none ∙ ap Ok (append-nil (take k xs) ∙ take_all k xs (omega arith))
-
--- the first that cannot be read
-pub each_broken : {X : Type 0} (read : ℕ → Result X LeafFault) (size k at n : ℕ) (f : LeafFault) → ((i : ℕ) → i < k → (x : X) × (read (at + size * i) ≡ Ok x)) → k < n → read (at + size * k) ≡ Err f → read_each read at size n ≡ Err f
-each_broken read size k at zero f before lt is = absurd (omega arith)
-each_broken read size zero at (suc n) f before lt is =
-    let here : at + size * 0 ≡ at = omega arith in
-    ap (λ r. after r λ x. after (read_each read (at + size) size n) λ xs. Ok (x ∷ xs)) (ap read (sym here) ∙ is)
-each_broken read size (suc k) at (suc n) f before lt is =
-    let here : at + size * 0 ≡ at = omega arith in
-    let x = before 0 (omega arith) in
-    let next : (i : ℕ) → at + size * suc i ≡ at + size + size * i = λ i. omega arith in
-    let rest = each_broken read size k (at + size) n f (λ i low. let y = before (suc i) (omega arith) in (y.0, ap read (sym (next i)) ∙ y.1)) (omega arith) (ap read (sym (next k)) ∙ is) in
-    ap (λ r. after r λ x. after (read_each read (at + size) size n) λ xs. Ok (x ∷ xs)) (ap read (sym here) ∙ x.1) ∙ ap (λ r. after r λ xs. Ok (x.0 ∷ xs)) rest

@@ -25,15 +25,15 @@ along_cheap (Some arc) (Some by) cheap = cheap arc.0 arc.1 refl
 pub drives_cheap : (m : Meaning) → Limits m → (i : ℕ) → AllByRecursion Cheap (drives m i)
 unfolding drives
 drives_cheap m limits i =
-    All-map Cheap (drive m i) (range_with_len 0 (m.customers + 1)) (all_every (λ j. Cheap (drive m i j)) (λ j. along_cheap (m.arc i j) (move m i j) (λ cost travel is. (limits.arcs i j cost travel is).cheap)) (range_with_len 0 (m.customers + 1)))
+    All-map Cheap (drive m i) (range_with_len 0 61) (all_every (λ j. Cheap (drive m i j)) (λ j. along_cheap (m.arc i j) (move m i j) (λ cost travel is. (limits.arcs i j cost travel is).cheap)) (range_with_len 0 61))
 
-pub drives_long : (m : Meaning) (i : ℕ) → length (drives m i) ≡ m.customers + 1
+pub drives_long : (m : Meaning) (i : ℕ) → length (drives m i) ≡ 61
 unfolding drives
-drives_long m i = length-map-range_with_len (drive m i) 0 (m.customers + 1)
+drives_long m i = length-map-range_with_len (drive m i) 0 61
 
-drives_at : (m : Meaning) (i j : ℕ) → j < m.customers + 1 → get_or (drives m i) j None ≡ drive m i j
+drives_at : (m : Meaning) (i j : ℕ) → j < 61 → get_or (drives m i) j None ≡ drive m i j
 unfolding drives
-drives_at m i j lt = get_or-map-range_with_len (drive m i) 0 (m.customers + 1) j j None lt (omega arith)
+drives_at m i j lt = get_or-map-range_with_len (drive m i) 0 61 j j None lt (omega arith)
 
 refused_same : (ok other : ℕ → Bool) (j more : ℕ) → ((k : ℕ) → k < j + more → ok k ≡ other k) → first_refused ok j more ≡ first_refused other j more
 refused_same ok other j zero same = refl
@@ -42,7 +42,7 @@ refused_same ok other j (suc more) same =
 
 -- the first end that fails among the arcs asked for once, of n customers
 module _ {S : Type 0} (μ : Measuring S) (m : Meaning) (leaf : Leaf S) (v w : ℤ) (s : S) (i n : ℕ) (row : List (Option (ℕ × Move))) (is : row ≡ drives m i) (few : n ≤ 60) (same : n ≡ m.customers) (held : w ≡ v) where
-  row_refused : (first more : ℕ) → first + more ≤ m.customers + 1 → first_refused (λ j. drive_ok μ leaf w s j (get_or row j None)) first more ≡ first_refused (arc_ok μ m leaf v s i) first more
+  row_refused : (first more : ℕ) → first + more ≤ 61 → first_refused (λ j. drive_ok μ leaf w s j (get_or row j None)) first more ≡ first_refused (arc_ok μ m leaf v s i) first more
   row_refused first more low =
       refused_same (λ j. drive_ok μ leaf w s j (get_or row j None)) (arc_ok μ m leaf v s i) first more (λ k lt. ap₂ (λ x r. drive_ok μ leaf x s k (get_or r k None)) held is ∙ ap (drive_ok μ leaf v s k) (drives_at m i k (omega arith)))
 

@@ -1,5 +1,5 @@
 -- A leaf is read from a record exactly where the record says it.
-use Rattle.std.proofs.Common.{◌≡◌, ℕ, zero, suc, ◌+◌, ◌*◌, ◌<◌, ◌≤◌, Bool, true, false, cond, List, [], ◌∷◌, length, get_or, ℤ, pos, nat_abs, Some, None, Ok, Err, Option, Result, sym, refl, ap, ◌∙◌, subst, arith}
+use Rattle.std.proofs.Common.{◌≡◌, ℕ, zero, suc, ◌+◌, ◌-◌, ◌*◌, ◌<◌, ◌≤◌, Bool, true, false, cond, ◌&&◌, ◌||◌, eqb, ltb, List, [], ◌∷◌, length, get_or, ℤ, pos, nat_abs, Some, None, Ok, Err, Option, Result, sym, refl, ap, ◌∙◌, subst, ap₂, arith}
 use Rattle.std.proofs.lemmas.List.{get_or_default}
 use Rattle.std.proofs.lemmas.Bool.{cond-true, cond-false, ltb-false, le-ltb, eq-eqb, eqb-true, and_from, and_parts, or_from, or_parts}
 use Rattle.std.specs.List.{AllByRecursion}
@@ -115,7 +115,7 @@ module _ {X : Type 0} (read : ℕ → Result X LeafFault) (size : ℕ) where
       let whole : (x.0 ∷ rest.0) ≡ xs = cc in
       ap read (next_at at k) ∙ each_at (at + size) n rest.0 rest.1 k d (omega arith) ∙ ap (λ l. Ok (get_or l (suc k) d)) whole
 
-  pub each_from : (at n : ℕ) (xs : List X) → length xs ≡ n → ((k : ℕ) (d : X) → k < n → read (at + size * k) ≡ Ok (get_or xs k d)) → read_each read at size n ≡ Ok xs
+  each_from : (at n : ℕ) (xs : List X) → length xs ≡ n → ((k : ℕ) (d : X) → k < n → read (at + size * k) ≡ Ok (get_or xs k d)) → read_each read at size n ≡ Ok xs
   each_from at zero [] long each = refl
   each_from at zero (x ∷ xs) long each = absurd (omega arith)
   each_from at (suc n) [] long each = absurd (omega arith)

@@ -1,15 +1,17 @@
 -- What a look-up among the sorted entries comes to: the best of all the entries.
-use Rattle.std.proofs.Common.{◌≡◌, ℕ, suc, ◌-◌, ◌<◌, ◌≤◌, false, List, map, length, get_or, ℤ, pos, ◌≤ℤ◌, Some, None, Option, sym, refl, ap, ◌∙◌, subst, ⊎_elim, arith}
-use Rattle.std.proofs.ByRecursion.{all_has_itself, has_get_or}
+use Rattle.std.proofs.Common.{◌≡◌, ℕ, suc, ◌-◌, ◌<◌, ◌≤◌, true, false, List, map, length, get_or, ℤ, pos, ◌≤ℤ◌, Some, None, Option, sym, refl, ap, ◌∙◌, subst, ⊎_elim, arith}
+use Rattle.std.proofs.ByRecursion.{all_has_itself, has_get_or, has_shuffled}
 use Rattle.std.proofs.lemmas.Int.{ints}
+use Rattle.std.proofs.lemmas.List.Sorted.{IsPermutation-sym}
 use Rattle.std.proofs.lemmas.List.{get_or_default, get_or-map, length-map}
 use Rattle.std.proofs.lemmas.Bool.{cases_lt, cases_eq, both_ways}
 use Rattle.std.specs.List.{ContainsAt as Has}
+use Rattle.std.specs.List.Sorted.{IsPermutation}
 use Rattle.measures.specs.Measure.{Measuring}
 use Rattle.leaf.specs.declared.potentials.Potential.{Potential}
 use Rattle.leaf.specs.Held.{Rising, decoded}
 use Rattle.leaf.specs.Rule.{best}
-use Rattle.leaf.proofs.Best.{Counts, best_reached, best_bounds_each}
+use Rattle.leaf.proofs.Best.{Counts, Bounded, best_reached, best_bounds_each}
 
 abbrev pub blank : Potential ℕ
 blank = record { place = 0; value = pos 0; corner = 0 }
@@ -30,7 +32,7 @@ module _ {S : Type 0} (μ : Measuring S) (j : ℕ) (y : S) where
   none_counts es none None is = is
   none_counts es none (Some h) is = let top = best_reached μ j y (Has es) es h (all_has_itself es) is in absurd (none top.0 top.1 top.2)
 
-  module _ (bytes : List ℕ) (entries sorted : List (Potential ℕ)) (among : (e : Potential ℕ) → Has entries e → Has sorted e) (of : (e : Potential ℕ) → Has sorted e → Has entries e) (rising : Rising sorted) where
+  module _ (bytes : List ℕ) (entries sorted : List (Potential ℕ)) (same : IsPermutation entries sorted) (rising : Rising sorted) where
     -- from index k on, none of the sorted counts
     abbrev pub Passed : ℕ → Type 0
     Passed k = (i : ℕ) (d : Potential ℕ) → k ≤ i → i < length sorted → Counts μ j y (decoded μ bytes (get_or sorted i d)) → ⊥
@@ -43,24 +45,18 @@ module _ {S : Type 0} (μ : Measuring S) (j : ℕ) (y : S) where
     stands x has =
         let lt : has.0 < length entries = subst (λ n. has.0 < n) (length-map entries (decoded μ bytes)) has.1 in
         let e = get_or entries has.0 blank in
-        let at = among e (has_get_or entries has.0 blank lt) in
+        let at = has_shuffled entries sorted e same (has_get_or entries has.0 blank lt) in
         (at.0, at.1, λ d. ap (decoded μ bytes) (at.2 d) ∙ sym (get_or-map (decoded μ bytes) entries has.0 blank x lt) ∙ has.2 x)
 
     -- what stands among the sorted is an entry
     is_said : (k : ℕ) (d : Potential ℕ) → k < length sorted → Has said (decoded μ bytes (get_or sorted k d))
     is_said k d lt =
-        let at = of (get_or sorted k d) (has_get_or sorted k d lt) in
+        let at = has_shuffled sorted entries (get_or sorted k d) (IsPermutation-sym entries sorted same) (has_get_or sorted k d lt) in
         (at.0, subst (λ n. at.0 < n) (sym (length-map entries (decoded μ bytes))) at.1, λ x. get_or-map (decoded μ bytes) entries at.0 d x at.1 ∙ ap (decoded μ bytes) (at.2 d))
 
-    -- all before k stand below the place
-    pub look_none : (k : ℕ) → ((i : ℕ) (d : Potential ℕ) → i < k → (get_or sorted i d).place < j) → Passed k → best μ said j y ≡ None
-    look_none k below passed =
-        none_counts said
-        (λ x has c.
-        let at = stands x has in
-        let here = subst (Counts μ j y) (sym (at.2 blank)) c in
-        ⊎_elim (λ near. omega (arith, below at.0 blank near, here.at)) (λ far. passed at.0 blank far at.1 here) (cases_lt at.0 k))
-        _ refl
+    pub look_none : (k : ℕ) → k ≡ 0 → Passed k → best μ said j y ≡ None
+    look_none k start passed =
+        none_counts said (λ x has c. let at = stands x has in passed at.0 blank (omega arith) at.1 (subst (Counts μ j y) (sym (at.2 blank)) c)) _ refl
 
     -- the entry at k counts
     pub look_found : (k : ℕ) (d : Potential ℕ) → k < length sorted → Passed (suc k) → Counts μ j y (decoded μ bytes (get_or sorted k d)) → best μ said j y ≡ Some (get_or sorted k d).value
@@ -73,6 +69,18 @@ module _ {S : Type 0} (μ : Measuring S) (j : ℕ) (y : S) where
         ⊎_elim (λ far. absurd (passed at.0 d far at.1 here))
         (λ near. subst (λ z. z.value ≤ℤ e.value) (at.2 d) (rising.values at.0 k d (omega arith) lt (here.at ∙ sym counts.at)))
         (cases_lt k at.0))
+
+    -- the entry at k stands below the place, and so do all before it
+    pub look_below : (k : ℕ) (d : Potential ℕ) → k < length sorted → Passed (suc k) → (get_or sorted k d).place < j → best μ said j y ≡ None
+    look_below k d lt passed below =
+        none_counts said
+        (λ x has c.
+        let at = stands x has in
+        let here = subst (Counts μ j y) (sym (at.2 d)) c in
+        ⊎_elim (λ far. passed at.0 d far at.1 here)
+        (λ near. omega (arith, rising.places at.0 k d (omega arith) lt, here.at))
+        (cases_lt k at.0))
+        _ refl
 
     -- the entry before k does not count
     pub passed_more : (k : ℕ) (e : Potential ℕ) → 0 < k → k ≤ length sorted → μ.at_most (decoded μ bytes (get_or sorted (k - 1) e)).corner y ≡ false → Passed k → Passed (k - 1)

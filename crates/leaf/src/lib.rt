@@ -2,16 +2,13 @@
 #![tactic(auto)]
 
 pub mod arcs;
-pub mod broken;
 pub mod check;
 pub mod drives;
 pub mod faults;
 pub mod fields;
 pub mod held;
 pub mod index;
-pub mod layout;
 pub mod look;
-pub mod order;
 pub mod potentials;
 pub mod reach;
 pub mod records;

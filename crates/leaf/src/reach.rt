@@ -1,7 +1,6 @@
 // The bound that a leaf gives on the cost of a plan.
-ghost use Rattle.std.specs.Prelude.{◌≡◌, ◌+◌, ◌-◌, ◌*◌, ◌≤◌, length, pos, ◌+ℤ◌, ◌-ℤ◌, ◌*ℤ◌, if◌then◌else◌, Ok, Err, int_lt, unsigned_abs};
+ghost use Rattle.std.specs.Prelude.{◌≡◌, ◌+◌, ◌-◌, ◌*◌, ◌≤◌, length, pos, ◌+ℤ◌, ◌-ℤ◌, ◌*ℤ◌, if◌then◌else◌, int_lt, unsigned_abs};
 ghost use Rattle.std.specs.List.{AllByRecursion};
-ghost use Rattle.leaf.specs.declared.faults.LeafFault.TheVariants.{Bound};
 ghost use Rattle.leaf.specs.Answer.{bound_answer};
 ghost use Rattle.leaf.specs.Held.{leaf_of, Ready};
 ghost use Rattle.leaf.specs.Rule.{sum_z};
@@ -11,14 +10,6 @@ use crate::held::Held;
 use measures::measure::Measure;
 use routing::networks::Network;
 
-// A sum with one dual more.
-fn with_dual(sum: i64, dual: i64) -> i64
-    requires { (unsigned_abs sum ≤ 60000000000000) × (unsigned_abs dual ≤ 1000000000000) }
-    ensures { result ≡ sum +ℤ dual }
-{
-    sum + dual
-}
-
 // The sum of the duals.
 fn dual_sum(duals: &[i64]) -> i64
     requires { (length duals.now ≤ 60) × (AllByRecursion (λ p. unsigned_abs p ≤ 1000000000000) duals.now) }
@@ -27,7 +18,7 @@ fn dual_sum(duals: &[i64]) -> i64
 {
     let mut sum = 0;
     for dual in duals {
-        sum = with_dual(sum, *dual);
+        sum += *dual;
     }
     sum
 }
@@ -56,17 +47,6 @@ fn scaled_below(scale: u16, cost: u32) -> i64
     scale as i64 * (cost as i64 - 1)
 }
 
-// Denies a bound that is not above what a cheaper plan comes to.
-fn test_bound(below: i64, bound: i64) -> Result<(), LeafFault>
-    ensures { result ≡ (if int_lt below bound then Ok tt else Err Bound) }
-{
-    if below < bound {
-        Ok(())
-    } else {
-        Err(LeafFault::Bound)
-    }
-}
-
 // Denies a leaf whose bound does not reach the cost.
 pub(crate) fn check_bound<N: Network, M: Measure>(
     network: &N,
@@ -79,5 +59,9 @@ pub(crate) fn check_bound<N: Network, M: Measure>(
 {
     let bound = dual_sum(leaf.duals)
         + fleet_price(leaf.price, counted_vans(leaf.price, network.fleet()));
-    test_bound(scaled_below(leaf.scale, cost), bound)
+    if scaled_below(leaf.scale, cost) < bound {
+        Ok(())
+    } else {
+        Err(LeafFault::Bound)
+    }
 }

@@ -1,13 +1,11 @@
 // Reading a leaf record: its length, then field by field.
-ghost use Rattle.std.specs.Prelude.{◌≡◌, ◌+◌, ◌*◌, ◌≤◌, true, map, length, Ok, Err, MatchResult};
-ghost use Rattle.std.specs.List.{range_with_len};
+ghost use Rattle.std.specs.Prelude.{◌≡◌, ◌+◌, ◌*◌, ◌≤◌, true, length, Ok, Err, MatchResult};
 ghost use Rattle.leaf.specs.Record.{entry_size, words};
 ghost use Rattle.leaf.specs.Fields.{read_amount, read_corner, read_entry, read_each, well_sized};
-ghost use Rattle.leaf.specs.Held.{decoded, picked};
+ghost use Rattle.leaf.specs.Held.{read_located};
 
 use crate::faults::LeafFault;
 use crate::fields::{amount_at, place_at, short_at, words_at};
-use crate::layout::Layout;
 use crate::potentials::Potential;
 use measures::measure::Measure;
 
@@ -90,19 +88,38 @@ fn entry_at<M: Measure>(
     })
 }
 
-// Denies the first field of the entries, of which there are so many, that is out of its range.
-pub(crate) fn check_entry_fields<M: Measure>(
+// The entry at an offset, to be stored with its corner's offset.
+fn located_at<M: Measure>(
     measure: &M,
     customers: u8,
     bytes: &[u8],
-    layout: Layout,
-    count: usize,
-) -> Result<(), LeafFault>
-    requires { (layout.size ≡ entry_size (M.Measure.meaning measure.now).words) × (layout.at + layout.size * count ≤ length bytes.now) }
-    ensures { MatchResult result (λ _. read_each (read_entry (M.Measure.meaning measure.now) customers bytes.now) layout.at layout.size count ≡ Ok (map (decoded (M.Measure.meaning measure.now) bytes.now) (picked bytes.now layout (range_with_len 0 count)))) (λ f. read_each (read_entry (M.Measure.meaning measure.now) customers bytes.now) layout.at layout.size count ≡ Err f) }
+    at: usize,
+) -> Result<Potential<usize>, LeafFault>
+    requires { at + entry_size (M.Measure.meaning measure.now).words ≤ length bytes.now }
+    ensures { result ≡ read_located (M.Measure.meaning measure.now) customers bytes.now at }
 {
-    for k in 0..count {
-        entry_at(measure, customers, bytes, layout.at + layout.size * k)?;
+    let entry = entry_at(measure, customers, bytes, at)?;
+    Ok(Potential {
+        place: entry.place,
+        value: entry.value,
+        corner: at + 9,
+    })
+}
+
+// The entries from an offset on, as many as there is room for.
+pub(crate) fn read_entries<M: Measure>(
+    measure: &M,
+    customers: u8,
+    bytes: &[u8],
+    at: usize,
+    room: &mut [Potential<usize>],
+) -> Result<(), LeafFault>
+    requires { at + length room.old * entry_size (M.Measure.meaning measure.now).words ≤ length bytes.now }
+    ensures { MatchResult result (λ _. read_each (read_located (M.Measure.meaning measure.now) customers bytes.now) at (entry_size (M.Measure.meaning measure.now).words) (length room.old) ≡ Ok room.new) (λ f. read_each (read_located (M.Measure.meaning measure.now) customers bytes.now) at (entry_size (M.Measure.meaning measure.now).words) (length room.old) ≡ Err f) }
+{
+    let size = 9 + 8 * measure.words();
+    for (k, entry) in room.iter_mut().enumerate() {
+        *entry = located_at(measure, customers, bytes, at + size * k)?;
     }
     Ok(())
 }

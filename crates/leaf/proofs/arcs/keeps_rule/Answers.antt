@@ -1,8 +1,8 @@
-use Rattle.std.proofs.Common.{◌≡◌, ℕ, ◌-◌, ◌*◌, ◌≤◌, get_or, ℤ, pos, ◌+ℤ◌, ◌-ℤ◌, nat_abs, Some, None, sym, ap, ◌∙◌, subst, arith, w64, SFits, to_z, of_z, rules}
+use Rattle.std.proofs.Common.{◌≡◌, ℕ, ◌-◌, ◌*◌, ◌≤◌, get_or, ℤ, pos, ◌+ℤ◌, ◌-ℤ◌, nat_abs, Some, None, sym, refl, ap, ◌∙◌, subst, arith, w64, SFits, to_z, of_z, rules}
 use lib.Signed.{le_z}
 use Rattle.std.proofs.lemmas.Nat.{mul-le}
 use Rattle.std.proofs.ByRecursion.{All-get_or}
-use Rattle.std.proofs.lemmas.Int.{to_z-of_z}
+use Rattle.std.proofs.lemmas.Int.{to_z-of_z, ints}
 use Rattle.leaf.specs.Held.{leaf_of, Cheap}
 use Rattle.leaf.proofs.Allowed.{ok_home, ok_onward, best_small}
 use Rattle.leaf.proofs.arcs.keeps_rule.Goals as goal
@@ -30,8 +30,7 @@ scaled-cost-requires g c = (c.requires.0.small.scale, subst Cheap c.in-Some.is c
 pub returns-then-to-eq0 : goal.returns-then-to-eq0
 returns-then-to-eq0 g c =
     let μ = g.M.Measure.meaning c.args.measure.now in
-    c.keeps_home.ensures
-    ∙ home_same c.args.value c.scaled-cost.result (c.args.leaf.scale * c.in-Some.cost) c.ranges.value (search rules) c.scaled-cost.ensures
+    home_same c.args.value c.scaled-cost.result (c.args.leaf.scale * c.in-Some.cost) c.ranges.value (search rules) c.scaled-cost.ensures
     ∙ sym (ok_home μ (leaf_of (g.M.Measure.meaning c.args.measure.now) c.args.leaf) c.args.value c.args.state c.args.to c.args.drive c.in-Some.cost c.in-Some.by c.in-Some-step.reached c.in-Some.is (sym c.in-Some-step.ensures) c.if-to-eq0.true)
 
 pub is_within-requires : goal.is_within-requires

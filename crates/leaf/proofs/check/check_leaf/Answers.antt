@@ -28,8 +28,14 @@ returns-then-count-le256 g c =
     let mea = c.args.measure.now in
     both (g.M.Measure.meaning mea) (g.N.Network.meaning net) c.args.record.now c.args.cost (g.M.Measure.laws mea) (g.N.Network.limits net) _ c.check_sized.ensures
 
-pub returns-else-count-le256 : goal.returns-else-count-le256
-returns-else-count-le256 g c =
+pub returns-then-count-le4096 : goal.returns-then-count-le4096
+returns-then-count-le4096 g c =
     let net = c.args.network.now in
     let mea = c.args.measure.now in
-    both (g.M.Measure.meaning mea) (g.N.Network.meaning net) c.args.record.now c.args.cost (g.M.Measure.laws mea) (g.N.Network.limits net) _ c.check_sized-else-count-le256.ensures
+    both (g.M.Measure.meaning mea) (g.N.Network.meaning net) c.args.record.now c.args.cost (g.M.Measure.laws mea) (g.N.Network.limits net) _ c.check_sized-then-count-le4096.ensures
+
+pub returns-else-count-le4096 : goal.returns-else-count-le4096
+returns-else-count-le4096 g c =
+    let net = c.args.network.now in
+    let mea = c.args.measure.now in
+    both (g.M.Measure.meaning mea) (g.N.Network.meaning net) c.args.record.now c.args.cost (g.M.Measure.laws mea) (g.N.Network.limits net) _ c.check_sized-else-count-le4096.ensures

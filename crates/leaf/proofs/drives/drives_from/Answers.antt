@@ -1,4 +1,4 @@
-use Rattle.std.proofs.Common.{◌+◌, ◌≢◌, None, ◌∙◌, arith, length-set, get_or-set_other, get_or-set_same, below_more}
+use Rattle.std.proofs.Common.{◌≡◌, ℕ, ◌+◌, ◌*◌, ◌<◌, ◌≢◌, length, None, ap, ◌∙◌, arith, length-set, get_or-set_other, get_or-set_same, below_more}
 use Rattle.std.proofs.lemmas.List.FromFn.{fill_by_all}
 use Rattle.leaf.specs.Answer.{drive}
 use Rattle.leaf.specs.Held.{drives}
@@ -17,4 +17,4 @@ pub returns : goal.returns
 unfolding drives
 returns g c =
     let s = c.loop-to in
-    fill_by_all (drive (g.N.Network.meaning c.args.network.now) c.args.from) s.row ((g.N.Network.meaning c.args.network.now).customers + 1) None (s.auto.row ∙ c.requires) (λ i h. s.invariant.1 i (omega arith))
+    fill_by_all (drive (g.N.Network.meaning c.args.network.now) c.args.from) s.row 61 None (s.auto.row ∙ c.requires) (λ i h. s.invariant.1 i (omega arith))

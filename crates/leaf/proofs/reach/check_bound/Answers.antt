@@ -1,11 +1,10 @@
-use Rattle.std.proofs.Common.{◌≡◌, ℕ, ◌≤◌, Bool, cond, ℤ, pos, ◌+ℤ◌, ◌-ℤ◌, ◌*ℤ◌, nat_abs, Ok, Err, sym, ap, ◌∙◌, subst, ap₂, arith, w64, SFits, to_z, of_z}
+use Rattle.std.proofs.Common.{◌≡◌, ℕ, ◌≤◌, Bool, cond, List, ℤ, pos, ◌+ℤ◌, ◌-ℤ◌, ◌*ℤ◌, nat_abs, sym, ap, ◌∙◌, subst, ap₂, arith, w64, SFits, to_z, of_z}
 use lib.Signed.{lt_z}
 use Rattle.std.proofs.lemmas.Int.{to_z-of_z, ints}
-use Rattle.std.proofs.lemmas.Bool.{cond_both}
+use Rattle.std.proofs.lemmas.Bool.{cond-true, cond-false, cond_both}
 use Rattle.routing.specs.Network.{Meaning, Limits}
-use Rattle.leaf.specs.declared.faults.LeafFault.TheVariants.{Bound}
 use Rattle.leaf.specs.Held.{leaf_of}
-use Rattle.leaf.specs.Rule.{bound, vans_counted}
+use Rattle.leaf.specs.Rule.{bound, sum_z, vans_counted}
 use Rattle.leaf.proofs.Products.{fits_small}
 use Rattle.leaf.proofs.reach.check_bound.Goals as goal
 
@@ -43,9 +42,18 @@ overflow_add-bound g c =
     let sum : nat_abs (c.dual_sum.result +ℤ c.fleet_price.result) ≤ 61000000000000000 = omega (arith, ints, ds, fs) in
     subst (SFits w64) (sym inner) (fits_small (c.dual_sum.result +ℤ c.fleet_price.result) 61000000000000000 sum (omega arith))
 
-pub returns : goal.returns
-returns g c =
+pub returns-then-scaled_below-bound : goal.returns-then-scaled_below-bound
+returns-then-scaled_below-bound g c =
     let m = g.N.Network.meaning c.args.network.now in
     let leaf = c.args.leaf in
     let right : c.dual_sum.result +ℤ c.fleet_price.result ≡ bound m (leaf_of (g.M.Measure.meaning c.args.measure.now) leaf) = ap₂ ◌+ℤ◌ c.dual_sum.ensures.value (fleet_counts m leaf.price c.fleet_price.result c.fleet.result c.counted_vans.result c.requires.small.price c.fleet.ensures c.counted_vans.ensures c.fleet_price.ensures.value) in
-    c.test_bound.ensures ∙ ap (λ b. cond b (Ok tt) (Err Bound)) (tested c.scaled_below.result c.dual_sum.result c.fleet_price.result (pos leaf.scale *ℤ (pos c.args.cost -ℤ pos 1)) (bound m (leaf_of (g.M.Measure.meaning c.args.measure.now) leaf)) c.dual_sum.ensures.small c.fleet_price.ensures.small (record { sfits = c.scaled_below.type_inv }) c.scaled_below.ensures right)
+    let test = tested c.scaled_below.result c.dual_sum.result c.fleet_price.result (pos leaf.scale *ℤ (pos c.args.cost -ℤ pos 1)) (bound m (leaf_of (g.M.Measure.meaning c.args.measure.now) leaf)) c.dual_sum.ensures.small c.fleet_price.ensures.small (record { sfits = c.scaled_below.type_inv }) c.scaled_below.ensures right in
+    sym (cond-true _ _ _ (sym test ∙ c.if-scaled_below-bound.true))
+
+pub returns-else-scaled_below-bound : goal.returns-else-scaled_below-bound
+returns-else-scaled_below-bound g c =
+    let m = g.N.Network.meaning c.args.network.now in
+    let leaf = c.args.leaf in
+    let right : c.dual_sum.result +ℤ c.fleet_price.result ≡ bound m (leaf_of (g.M.Measure.meaning c.args.measure.now) leaf) = ap₂ ◌+ℤ◌ c.dual_sum.ensures.value (fleet_counts m leaf.price c.fleet_price.result c.fleet.result c.counted_vans.result c.requires.small.price c.fleet.ensures c.counted_vans.ensures c.fleet_price.ensures.value) in
+    let test = tested c.scaled_below.result c.dual_sum.result c.fleet_price.result (pos leaf.scale *ℤ (pos c.args.cost -ℤ pos 1)) (bound m (leaf_of (g.M.Measure.meaning c.args.measure.now) leaf)) c.dual_sum.ensures.small c.fleet_price.ensures.small (record { sfits = c.scaled_below.type_inv }) c.scaled_below.ensures right in
+    sym (cond-false _ _ _ (sym test ∙ c.if-scaled_below-bound.false))

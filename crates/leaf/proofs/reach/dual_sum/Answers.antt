@@ -1,19 +1,20 @@
-use Rattle.std.proofs.Common.{◌≤◌, pos, nat_abs, arith}
+use Rattle.std.proofs.Common.{◌≡◌, ◌≤◌, get_or, drop, ℤ, pos, ◌+ℤ◌, nat_abs, sym, ap, ◌∙◌, arith}
 use Rattle.std.proofs.ByRecursion.{All-get_or}
 use Rattle.std.proofs.lemmas.List.{at_drop_more, at_drop_all}
 use Rattle.std.proofs.lemmas.Int.{ints}
 use Rattle.leaf.specs.Rule.{sum_z}
+use Rattle.leaf.proofs.Products.{fits_small}
 use Rattle.leaf.proofs.reach.dual_sum.Goals as goal
 
 pub loop-dual-init : goal.loop-dual-init
 loop-dual-init c = (omega arith, omega (arith, ints), omega (arith, ints))
 
-pub with_dual-sum-requires : goal.with_dual-sum-requires
-with_dual-sum-requires c =
+pub overflow_add-sum : goal.overflow_add-sum
+overflow_add-sum c =
     let s = c.loop-dual in
     let xs = c.args.duals.now in
     let small = All-get_or (λ p. nat_abs p ≤ 1000000000000) xs s.dual-index (pos 0) c.loop-dual-test.true c.requires.1 in
-    (omega (arith, ints, s.invariant.1, c.requires.0), omega (arith, ints, small))
+    fits_small _ 120000000000000 (omega (arith, ints, s.invariant.1, c.requires.0)) (omega arith)
 
 pub loop-dual-preserved : goal.loop-dual-preserved
 loop-dual-preserved c =
@@ -21,7 +22,7 @@ loop-dual-preserved c =
     let xs = c.args.duals.now in
     let small = All-get_or (λ p. nat_abs p ≤ 1000000000000) xs s.dual-index (pos 0) c.loop-dual-test.true c.requires.1 in
     let more = at_drop_more sum_z xs s.dual-index (pos 0) c.loop-dual-test.true in
-    (omega arith, omega (arith, ints, s.invariant.1, c.with_dual-sum.ensures), omega (arith, ints, s.invariant.2, more, c.with_dual-sum.ensures))
+    (omega arith, omega (arith, ints, s.invariant.1), omega (arith, ints, s.invariant.2, more))
 
 pub returns : goal.returns
 returns c =
