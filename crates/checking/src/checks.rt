@@ -1,5 +1,5 @@
 // A check over a network that it keeps.
-use decisions::layer::DecisionLayer;
+use decisions::layers::DecisionLayer;
 
 // The network under the decisions, the cost of the plan held, if any, and whether the tree is finished.
 #[derive(Drop)]

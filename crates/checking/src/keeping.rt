@@ -6,7 +6,7 @@ ghost use Rattle.checking.specs.States.{network_of, state_of, Does};
 use crate::calls::Standing;
 use crate::checks::Check;
 use crate::faults::CheckFault;
-use decisions::layer::DecisionLayer;
+use decisions::layers::DecisionLayer;
 use replay::pricing::price;
 use replay::vans::Priced;
 use routing::networks::Network;

@@ -1,7 +1,6 @@
 pub mod Decided
 pub mod Ends
 pub mod Forks
-pub mod Marked
 pub mod Once
 pub mod Parts
 pub mod Search

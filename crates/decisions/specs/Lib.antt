@@ -4,4 +4,3 @@ pub mod Decisions
 pub mod Forks
 pub mod Lawful
 pub mod Parts
-pub mod Removed

@@ -1,5 +1,6 @@
 // What a branch does with its decisions: each change as one of their list.
 ghost use Rattle.std.specs.Prelude.{◌≡◌, ◌+◌, ◌<◌, [], ◌∷◌, ◌++◌, length, if◌then◌else◌, ◌==◌, nat_lt, slice_set};
+ghost use Rattle.decisions.specs.Decisions.{removed};
 ghost use Rattle.decisions.specs.Branches.{kept, last_of, all_but_last, turned_last, ends_second, trimmed, backed_up};
 
 use crate::decision::{Decision, turn};
@@ -111,5 +112,17 @@ impl Decisions {
         self.drop_second();
         self.turn_last();
         self.len > 0
+    }
+
+    // Whether some decision removes the arc from i to j.
+    pub(crate) fn removes(&self, i: u8, j: u8) -> bool
+        ensures { result ≡ removed (kept self.now) i j }
+    {
+        for decision in self.as_slice() {
+            if decision.removes(i, j) {
+                return true;
+            }
+        }
+        false
     }
 }

@@ -8,10 +8,14 @@ ghost use Rattle.decisions.specs.Parts.{Part, PlansBelow};
 
 use crate::decision::Decision;
 use crate::decisions::Decisions;
-use crate::layer::DecisionLayer;
-use crate::removed::RemovedArcs;
 use routing::cells::Place;
 use routing::networks::Network;
+
+#[derive(Drop)]
+pub struct DecisionLayer<N> {
+    pub below: N,
+    pub decisions: Decisions,
+}
 
 impl<N: Network> Network for DecisionLayer<N> {
     ghost meaning = { λ x. decided (N.Network.meaning x.below) (kept x.decisions) };
@@ -35,11 +39,10 @@ impl<N: Network> Network for DecisionLayer<N> {
     }
 
     fn arc(&self, i: u8, j: u8) -> Option<(u32, u32)> {
-        let arc = self.below.arc(i, j)?;
-        if self.removed.has(i, j) {
+        if self.decisions.removes(i, j) {
             return None;
         }
-        Some(arc)
+        self.below.arc(i, j)
     }
 }
 
@@ -52,7 +55,6 @@ impl<N: Network> DecisionLayer<N> {
         DecisionLayer {
             below,
             decisions: Decisions::new(),
-            removed: RemovedArcs::none(),
         }
     }
 
@@ -62,7 +64,6 @@ impl<N: Network> DecisionLayer<N> {
         let DecisionLayer {
             below,
             decisions: _,
-            removed: _,
         } = self;
         below
     }
@@ -85,12 +86,7 @@ impl<N: Network> DecisionLayer<N> {
         ensures network { decided (N.Network.meaning self.new.below) (kept self.new.decisions) ≡ (if result then under (forbid from to) (decided (N.Network.meaning self.old.below) (kept self.old.decisions)) else decided (N.Network.meaning self.old.below) (kept self.old.decisions)) }
         ensures plans { StaysOpen (N.Network.meaning self.old.below) (kept self.old.decisions) (kept self.new.decisions) }
     {
-        let decision = Decision::forbid(from, to);
-        if !self.decisions.push(decision) {
-            return false;
-        }
-        self.removed.add(decision);
-        true
+        self.decisions.push(Decision::forbid(from, to))
     }
 
     // Goes on to the next branch, where what was ahead is open, or answers false where nothing was.
@@ -100,8 +96,6 @@ impl<N: Network> DecisionLayer<N> {
         ensures stays { self.new.below ≡ self.old.below }
         ensures plans { GoesOn (N.Network.meaning self.old.below) (kept self.old.decisions) result (kept self.new.decisions) }
     {
-        let more = self.decisions.back_up();
-        self.removed = RemovedArcs::of(self.decisions.as_slice());
-        more
+        self.decisions.back_up()
     }
 }

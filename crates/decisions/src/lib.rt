@@ -4,9 +4,6 @@
 pub mod decision;
 pub mod decisions;
 pub mod keeping;
-pub mod layer;
 pub mod layers;
-pub mod removed;
-pub mod removing;
 #[cfg(test)]
 mod tests;

@@ -1,7 +1,6 @@
 // Examples of decisions and of the branches of a search.
 use crate::decision::{Decision, turn};
 use crate::decisions::Decisions;
-use crate::removed::RemovedArcs;
 
 #[test]
 fn depot_keeps_its_other_arcs(rt: HostRuntime) {
@@ -14,19 +13,6 @@ fn depot_keeps_its_other_arcs(rt: HostRuntime) {
 }
 
 #[test]
-fn table_has_what_is_removed(rt: HostRuntime) {
-    let mut forced = Decision::forbid(2, 3);
-    turn(&mut forced);
-    let table = RemovedArcs::of(&[Decision::forbid(0, 1), forced]);
-    assert!(rt; table.has(0, 1));
-    assert!(rt; !table.has(0, 2));
-    assert!(rt; !table.has(2, 3));
-    assert!(rt; table.has(2, 0));
-    assert!(rt; table.has(0, 3));
-    assert!(rt; !table.has(3, 2));
-}
-
-#[test]
 fn backs_up_past_second_sides(rt: HostRuntime) {
     let mut decisions = Decisions::new();
     assert!(rt; decisions.push(Decision::forbid(1, 2)));
@@ -34,7 +20,7 @@ fn backs_up_past_second_sides(rt: HostRuntime) {
     decisions.turn_last();
     assert!(rt; decisions.back_up());
     assert_eq!(rt; decisions.len(), 1);
-    assert!(rt; RemovedArcs::of(decisions.as_slice()).has(1, 3));
+    assert!(rt; decisions.removes(1, 3));
     assert!(rt; !decisions.back_up());
     assert_eq!(rt; decisions.len(), 0);
 }

@@ -6,7 +6,7 @@ use Rattle.std.proofs.lemmas.Int.{ints}
 use Rattle.std.proofs.lemmas.Bool.{cond-false, le-ltb}
 use Rattle.std.specs.List.{AllByRecursion}
 use Rattle.routing.specs.Network.{Meaning, Limits}
-use Rattle.routing.specs.Routes.{Customer, Drivable, Plan, plan_cost, route_cost, visits}
+use Rattle.routing.specs.Routes.{Customer, Drivable, Plan, plan_cost, visits}
 use Rattle.measures.specs.Measure.{Measuring, Laws}
 use Rattle.leaf.specs.Rule.{Leaf, Holds, bound, dual, vans_counted}
 use Rattle.leaf.proofs.AlongRoute.{route_bounds}

@@ -6,7 +6,7 @@ use Rattle.leaf.specs.declared.faults.LeafFault.{LeafFault}
 use Rattle.leaf.specs.declared.potentials.Potential.{Potential}
 use Rattle.leaf.specs.Fields.{after, read_entry, read_each}
 use Rattle.leaf.specs.Held.{decoded, located, read_located, Inside}
-use Rattle.leaf.specs.Record.{entry_size, words}
+use Rattle.leaf.specs.Record.{entry_size}
 use Rattle.leaf.proofs.Saying.{after_ok, entry_ok}
 
 module _ {S : Type 0} (μ : Measuring S) (n : ℕ) (bytes : List ℕ) where

@@ -1,8 +1,8 @@
 -- The answer grants a leaf exactly when its rule holds.
-use Rattle.std.proofs.Common.{◌≡◌, ℕ, zero, suc, ◌+◌, ◌*◌, ◌<◌, ◌≤◌, Bool, true, false, cond, List, [], ◌∷◌, ℤ, pos, ◌+ℤ◌, ◌-ℤ◌, ◌*ℤ◌, ◌≤ℤ◌, ◌<ℤ◌, Some, None, Ok, Err, Option, Result, sym, refl, ap, ◌∙◌, ⊎_elim, arith}
+use Rattle.std.proofs.Common.{◌≡◌, ℕ, zero, suc, ◌+◌, ◌*◌, ◌<◌, ◌≤◌, Bool, true, false, cond, List, [], ◌∷◌, ℤ, pos, ◌+ℤ◌, ◌-ℤ◌, ◌≤ℤ◌, ◌<ℤ◌, Some, None, Ok, Err, Option, Result, sym, refl, ap, ◌∙◌, ⊎_elim, arith}
 use lib.Signed.{lt_z, le_z}
 use Rattle.std.proofs.lemmas.Int.{ints}
-use Rattle.std.proofs.lemmas.Bool.{cond-true, cond-false, cases_lt, cases_eq, eq-eqb, ne_eqb, true≢false, false≢true}
+use Rattle.std.proofs.lemmas.Bool.{cond-true, cond-false, cases_eq, eq-eqb, ne_eqb, false≢true}
 use Rattle.std.specs.List.{AllByRecursion}
 use Rattle.routing.specs.declared.cells.Place.{Place}
 use Rattle.routing.specs.Network.{Meaning, Limits}
@@ -15,7 +15,7 @@ use Rattle.leaf.specs.Answer.{arc_ok, drive_along, drive_ok, step_ok, potential_
 use Rattle.leaf.specs.Fields.{after, read_leaf}
 use Rattle.leaf.specs.Judges.{Judges}
 use Rattle.leaf.specs.Record.{Reads, entries_at, entry_size}
-use Rattle.leaf.specs.Rule.{Leaf, Holds, Onward, Home, EntryHolds, best, bound, dual}
+use Rattle.leaf.specs.Rule.{Leaf, Holds, Onward, EntryHolds, best, bound, dual}
 use Rattle.leaf.proofs.Bounds.{leaf_bounds}
 use Rattle.leaf.proofs.Saying.{after_ok, reads_from, reads_to}
 

@@ -1,5 +1,5 @@
 -- What a look-up among the sorted entries comes to: the best of all the entries.
-use Rattle.std.proofs.Common.{◌≡◌, ℕ, suc, ◌-◌, ◌<◌, ◌≤◌, true, false, List, map, length, get_or, ℤ, pos, ◌≤ℤ◌, Some, None, Option, sym, refl, ap, ◌∙◌, subst, ⊎_elim, arith}
+use Rattle.std.proofs.Common.{◌≡◌, ℕ, suc, ◌-◌, ◌<◌, ◌≤◌, false, List, map, length, get_or, ℤ, pos, ◌≤ℤ◌, Some, None, Option, sym, refl, ap, ◌∙◌, subst, ⊎_elim, arith}
 use Rattle.std.proofs.ByRecursion.{all_has_itself, has_get_or, has_shuffled}
 use Rattle.std.proofs.lemmas.Int.{ints}
 use Rattle.std.proofs.lemmas.List.Sorted.{IsPermutation-sym}
@@ -11,7 +11,7 @@ use Rattle.measures.specs.Measure.{Measuring}
 use Rattle.leaf.specs.declared.potentials.Potential.{Potential}
 use Rattle.leaf.specs.Held.{Rising, decoded}
 use Rattle.leaf.specs.Rule.{best}
-use Rattle.leaf.proofs.Best.{Counts, Bounded, best_reached, best_bounds_each}
+use Rattle.leaf.proofs.Best.{Counts, best_reached, best_bounds_each}
 
 abbrev pub blank : Potential ℕ
 blank = record { place = 0; value = pos 0; corner = 0 }

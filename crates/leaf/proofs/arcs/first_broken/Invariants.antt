@@ -1,4 +1,4 @@
-use Rattle.std.proofs.Common.{◌≡◌, ◌+◌, ◌-◌, ◌≤◌, length, get_or, None}
+use Rattle.std.proofs.Common.{◌≡◌, ◌+◌, ◌-◌, length, get_or, None}
 use Rattle.leaf.specs.Answer.{drive_ok, first_refused}
 use Rattle.leaf.specs.Held.{leaf_of}
 use Rattle.leaf.proofs.arcs.first_broken.Given as goal

@@ -1,9 +1,9 @@
-use Rattle.std.proofs.Common.{◌≡◌, ℕ, ◌+◌, ◌*◌, ◌^◌, ◌<◌, ◌≤◌, map, length, Ok, Err, sym, ap, ◌∙◌, arith, w64, to_z, of_z, rules}
+use Rattle.std.proofs.Common.{◌≡◌, ◌+◌, ◌*◌, ◌^◌, ◌<◌, ◌≤◌, map, length, Ok, Err, sym, ap, ◌∙◌, arith, w64, to_z, of_z, rules}
 use Rattle.std.proofs.lemmas.Result.{err_from_is_err_and}
 use Rattle.std.proofs.lemmas.Int.{to_z-of_z}
 use Rattle.std.proofs.lemmas.Bool.{cond-true, and_parts, eqb-true}
 use Rattle.leaf.specs.Answer.{rule_answer}
-use Rattle.leaf.specs.Fields.{after, read_amount, read_entry, read_each}
+use Rattle.leaf.specs.Fields.{after, read_amount, read_each}
 use Rattle.leaf.specs.Held.{decoded, read_located}
 use Rattle.leaf.specs.Record.{entries_at, entry_size, entry_count}
 use Rattle.leaf.proofs.Decoding.{each_decoded, located_inside}

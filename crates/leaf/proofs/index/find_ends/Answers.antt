@@ -1,4 +1,4 @@
-use Rattle.std.proofs.Common.{◌≡◌, ℕ, ◌+◌, ◌<◌, ◌≤◌, ◌≢◌, length, get_or, set, sym, ap, subst, arith, length-set, get_or-set_other, get_or-set_same, below_more}
+use Rattle.std.proofs.Common.{◌≢◌, sym, subst, arith, length-set, get_or-set_other, get_or-set_same, below_more}
 use Rattle.leaf.specs.Held.{EndsAt}
 use Rattle.leaf.proofs.index.find_ends.Goals as goal
 

@@ -1,4 +1,4 @@
-use Rattle.std.proofs.Common.{◌+◌, ◌<◌, subst, arith}
+use Rattle.std.proofs.Common.{arith}
 use Rattle.leaf.proofs.Ordered.{rising_from_sort}
 use Rattle.leaf.proofs.index.sort_entries.Goals as goal
 

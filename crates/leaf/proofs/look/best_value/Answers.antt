@@ -1,9 +1,9 @@
-use Rattle.std.proofs.Common.{◌≡◌, ℕ, suc, ◌-◌, ◌<◌, ◌≤◌, length, get_or, Some, sym, ap, ◌∙◌, arith, w64, SFits, rules}
+use Rattle.std.proofs.Common.{◌-◌, get_or, Some, sym, ap, ◌∙◌, arith, w64, SFits, rules}
 use Rattle.std.proofs.ByRecursion.{All-get_or, all_shuffled}
 use Rattle.std.proofs.lemmas.Int.{to_z-of_z}
 use Rattle.leaf.specs.Held.{Inside, decoded}
 use Rattle.leaf.proofs.Best.{Counts}
-use Rattle.leaf.proofs.Sought.{Passed, blank, look_none, look_found, look_below, passed_more}
+use Rattle.leaf.proofs.Sought.{blank, look_none, look_found, look_below, passed_more}
 use Rattle.leaf.proofs.look.best_value.Goals as goal
 
 pub corner_of-corner-requires : goal.corner_of-corner-requires

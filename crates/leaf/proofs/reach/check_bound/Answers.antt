@@ -1,10 +1,10 @@
-use Rattle.std.proofs.Common.{◌≡◌, ℕ, ◌≤◌, Bool, cond, List, ℤ, pos, ◌+ℤ◌, ◌-ℤ◌, ◌*ℤ◌, nat_abs, sym, ap, ◌∙◌, subst, ap₂, arith, w64, SFits, to_z, of_z}
+use Rattle.std.proofs.Common.{◌≡◌, ℕ, ◌≤◌, Bool, cond, ℤ, pos, ◌+ℤ◌, ◌-ℤ◌, ◌*ℤ◌, nat_abs, sym, ap, ◌∙◌, subst, ap₂, arith, w64, SFits, to_z, of_z}
 use lib.Signed.{lt_z}
 use Rattle.std.proofs.lemmas.Int.{to_z-of_z, ints}
 use Rattle.std.proofs.lemmas.Bool.{cond-true, cond-false, cond_both}
 use Rattle.routing.specs.Network.{Meaning, Limits}
 use Rattle.leaf.specs.Held.{leaf_of}
-use Rattle.leaf.specs.Rule.{bound, sum_z, vans_counted}
+use Rattle.leaf.specs.Rule.{bound, vans_counted}
 use Rattle.leaf.proofs.Products.{fits_small}
 use Rattle.leaf.proofs.reach.check_bound.Goals as goal
 

@@ -1,4 +1,4 @@
-use Rattle.std.proofs.Common.{◌≡◌, ◌≤◌, get_or, drop, ℤ, pos, ◌+ℤ◌, nat_abs, sym, ap, ◌∙◌, arith}
+use Rattle.std.proofs.Common.{◌≤◌, pos, nat_abs, arith}
 use Rattle.std.proofs.ByRecursion.{All-get_or}
 use Rattle.std.proofs.lemmas.List.{at_drop_more, at_drop_all}
 use Rattle.std.proofs.lemmas.Int.{ints}

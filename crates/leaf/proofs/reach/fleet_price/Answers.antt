@@ -1,4 +1,4 @@
-use Rattle.std.proofs.Common.{◌≡◌, ◌≤◌, ℤ, pos, ◌*ℤ◌, nat_abs, sym, ◌∙◌, subst, arith, w64, SFits, to_z, of_z}
+use Rattle.std.proofs.Common.{◌≤◌, pos, ◌*ℤ◌, nat_abs, sym, ◌∙◌, subst, arith, w64, SFits, to_z, of_z}
 use Rattle.std.proofs.lemmas.Int.{to_z-of_z}
 use Rattle.leaf.proofs.Products.{product_small, fits_small, held_product}
 use Rattle.leaf.proofs.reach.fleet_price.Goals as goal

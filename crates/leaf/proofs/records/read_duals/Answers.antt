@@ -1,8 +1,8 @@
-use Rattle.std.proofs.Common.{◌≡◌, ◌+◌, ◌*◌, length, set, ℤ, Ok, Err, sym, ap, ◌∙◌, arith, length-set, w64, SFits, to_z, of_z, rules}
+use Rattle.std.proofs.Common.{◌≡◌, length, Ok, sym, ap, ◌∙◌, arith, length-set, w64, SFits, to_z, of_z, rules}
 use Rattle.std.proofs.lemmas.Int.{to_z-of_z}
 use Rattle.std.proofs.lemmas.Result.{err_from_is_err_and}
 use Rattle.leaf.specs.Fields.{read_amount}
-use Rattle.leaf.proofs.Reading.{ReadSoFar, read_none, read_more, read_broken, read_all}
+use Rattle.leaf.proofs.Reading.{read_none, read_more, read_broken, read_all}
 use Rattle.leaf.proofs.records.read_duals.Goals as goal
 
 pub loop-k-init : goal.loop-k-init

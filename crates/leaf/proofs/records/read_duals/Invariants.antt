@@ -1,5 +1,5 @@
-use Rattle.std.proofs.Common.{◌≡◌, ◌+◌, ◌-◌, ◌*◌, ◌≤◌, length, take}
-use Rattle.leaf.specs.Fields.{read_amount, read_each}
+use Rattle.std.proofs.Common.{◌≤◌, length}
+use Rattle.leaf.specs.Fields.{read_amount}
 use Rattle.leaf.proofs.Reading.{ReadSoFar}
 use Rattle.leaf.proofs.records.read_duals.Given as goal
 

@@ -1,4 +1,4 @@
-use Rattle.std.proofs.Common.{◌≡◌, ◌+◌, ◌-◌, ◌*◌, ◌≤◌, length, take}
+use Rattle.std.proofs.Common.{◌≤◌, length}
 use Rattle.leaf.specs.Record.{entry_size}
 use Rattle.leaf.specs.Held.{read_located}
 use Rattle.leaf.proofs.Reading.{ReadSoFar}

@@ -1,7 +1,7 @@
 use Rattle.std.proofs.Common.{refl}
 use Rattle.decisions.specs.Branches.{kept}
 use Rattle.decisions.proofs.Parts.{part_decided, plans_below}
-use Rattle.decisions.proofs.layer.DecisionLayer.below.Goals as goal
+use Rattle.decisions.proofs.layers.DecisionLayer.below.Goals as goal
 
 pub returns : goal.returns
 returns g c =
