@@ -9,7 +9,7 @@ use Rattle.replay.specs.Drive.{drive_answer}
 use Rattle.replay.specs.Listing.{misplaced, repeated, missing}
 use Rattle.replay.proofs.Plans.{passed_unless, listed, short}
 
-module _ (m : Meaning) (l : List ℕ) (n : ℕ) (n-is : n ≡ m.customers) where
+module _ (m : Meaning) (l : List ℕ) (n : ℕ) (n_is : n ≡ m.customers) where
   abbrev driven_on : Result Priced ListingFault
   driven_on = after (drive_answer m l) (λ p. fleet_answer m.fleet p)
 
@@ -17,10 +17,10 @@ module _ (m : Meaning) (l : List ℕ) (n : ℕ) (n-is : n ≡ m.customers) where
   visited_on = after (once_answer m.customers l) (λ _. driven_on)
 
   form_is : (r : Result (Unit {0}) ListingFault) → r ≡ form_answer n l → price_answer m l ≡ after r (λ _. visited_on)
-  form_is r e = ap (λ x. after x (λ _. visited_on)) (sym (e ∙ ap (λ k. form_answer k l) n-is))
+  form_is r e = ap (λ x. after x (λ _. visited_on)) (sym (e ∙ ap (λ k. form_answer k l) n_is))
 
   once_is : (r : Result (Unit {0}) ListingFault) → r ≡ once_answer n l → visited_on ≡ after r (λ _. driven_on)
-  once_is r e = ap (λ x. after x (λ _. driven_on)) (sym (e ∙ ap (λ k. once_answer k l) n-is))
+  once_is r e = ap (λ x. after x (λ _. driven_on)) (sym (e ∙ ap (λ k. once_answer k l) n_is))
 
   pub ends_at_form : (f : ListingFault) → Err f ≡ form_answer n l → price_answer m l ≡ Err f
   ends_at_form f e = form_is (Err f) e
@@ -38,4 +38,4 @@ module _ (m : Meaning) (l : List ℕ) (n : ℕ) (n-is : n ≡ m.customers) where
           let placed = passed_unless (misplaced n false 0 l) Misplaced (Ok tt) tt (sym formed) in
           let distinct = passed_unless (repeated [] 0 l) Repeated (unless (missing l 1 n) Missing (Ok tt)) tt (sym once) in
           let all = passed_unless (missing l 1 n) Missing (Ok tt) tt distinct.1 in
-          omega (arith, short n l (listed n l placed.0 distinct.0 all.0), n-is, lawful.few)
+          omega (arith, short n l (listed n l placed.0 distinct.0 all.0), n_is, lawful.few)

@@ -166,18 +166,18 @@ module _ (m : Meaning) (lawful : Limits m) (l : List ℕ) where
   priced_is_plan p e =
       let n = m.customers in
       let depot = known (m.place 0) (lawful.present 0 (omega arith)) in
-      let formed-ok = went_after (form_answer n l) (λ _. after (once_answer n l) (λ _. after (drive_answer m l) (λ p. fleet_answer m.fleet p))) p e in
-      let once-ok = went_after (once_answer n l) (λ _. after (drive_answer m l) (λ p. fleet_answer m.fleet p)) p formed-ok.2 in
-      let drove-ok = went_after (drive_answer m l) (λ p. fleet_answer m.fleet p) p once-ok.2 in
-      let q = drove-ok.0 in
-      let fleet-ok = counted (ltb q.routes m.fleet.0 || ltb m.fleet.1 q.routes) _ q p drove-ok.2 in
-      let within = or_parts _ _ fleet-ok.0 in
-      let placed = passed_unless (misplaced n false 0 l) Misplaced (Ok tt) formed-ok.0 formed-ok.1 in
-      let distinct = passed_unless (repeated [] 0 l) Repeated (unless (missing l 1 n) Missing (Ok tt)) once-ok.0 once-ok.1 in
-      let all = passed_unless (missing l 1 n) Missing (Ok tt) once-ok.0 distinct.1 in
+      let formed_ok = went_after (form_answer n l) (λ _. after (once_answer n l) (λ _. after (drive_answer m l) (λ p. fleet_answer m.fleet p))) p e in
+      let once_ok = went_after (once_answer n l) (λ _. after (drive_answer m l) (λ p. fleet_answer m.fleet p)) p formed_ok.2 in
+      let drove_ok = went_after (drive_answer m l) (λ p. fleet_answer m.fleet p) p once_ok.2 in
+      let q = drove_ok.0 in
+      let fleet_ok = counted (ltb q.routes m.fleet.0 || ltb m.fleet.1 q.routes) _ q p drove_ok.2 in
+      let within = or_parts _ _ fleet_ok.0 in
+      let placed = passed_unless (misplaced n false 0 l) Misplaced (Ok tt) formed_ok.0 formed_ok.1 in
+      let distinct = passed_unless (repeated [] 0 l) Repeated (unless (missing l 1 n) Missing (Ok tt)) once_ok.0 once_ok.1 in
+      let all = passed_unless (missing l 1 n) Missing (Ok tt) once_ok.0 distinct.1 in
       let h = listed n l placed.0 distinct.0 all.0 in
       let drove : From m depot.0 0 0 0 (written h.routes) ≡ Ok q =
-      ap (λ o. drive_from m o (written h.routes)) (sym depot.1) ∙ ap (drive_from m (m.place 0)) (sym h.is) ∙ drove-ok.1 in
+      ap (λ o. drive_from m o (written h.routes)) (sym depot.1) ∙ ap (drive_from m (m.place 0)) (sym h.is) ∙ drove_ok.1 in
       let s = sound m lawful depot.0 depot.1 h.routes h.stops 0 0 0 q drove in
       let price : q ≡ price_of m h.routes = s.is ∙ ap₂ sum_of (omega arith) (omega arith) in
       let number = ap (λ x. x.routes) price in (
@@ -189,7 +189,7 @@ module _ (m : Meaning) (lawful : Limits m) (l : List ℕ) where
           drivable = drivables m h.routes h.stops h.few s.light s.schedules;
           once = λ c customer. h.once c customer.0 customer.1;
         },
-        sym fleet-ok.1 ∙ price,
+        sym fleet_ok.1 ∙ price,
       )
 
   pub prices : Prices m l (price_answer m l)

@@ -2,18 +2,18 @@
 use Rattle.std.proofs.Common.{◌≡◌, ℕ, ◌+◌, ◌-◌, ◌*◌, ◌^◌, ◌<◌, ◌≤◌, true, false, ◌&&◌, leb, List, length, get_or, drop, Some, None, sym, ap, ◌∙◌, arith, pow-add}
 use native.Mathlib.Nat.{pow-le-pow_right}
 use Rattle.std.specs.Str.Parse.{digits_value, digits_value_after}
-use Rattle.std.specs.Char.{digit_value as digitValue, is_ascii_digit}
+use Rattle.std.specs.Char.{digit_value, is_ascii_digit}
 use Rattle.std.specs.Int.{IsInRange}
 use Rattle.std.specs.Str.{all_ascii_digits}
 use Rattle.std.proofs.lemmas.List.{at_drop_more}
 use Rattle.std.proofs.lemmas.Bool.{and_from, and_right, and_parts, cond-true, cond-false, leb-true, le-ltb, lt-ltb}
 use Rattle.texts.specs.Numbers.{shaped, number_word, numeral}
 
-digit_value : (b : ℕ) → IsInRange 48 57 b → digitValue b ≡ b - 48
-digit_value b p = let low = le-ltb b 48 p.0 in let high = lt-ltb b 58 (omega (arith, p.1)) in rw (low, high)
+digit_value_lem : (b : ℕ) → IsInRange 48 57 b → digit_value b ≡ b - 48
+digit_value_lem b p = let low = le-ltb b 48 p.0 in let high = lt-ltb b 58 (omega (arith, p.1)) in rw (low, high)
 
 pub more_value : (w : List ℕ) (i n : ℕ) → i < length w → IsInRange 48 57 (get_or w i 0) → digits_value_after 10 n (drop i w) ≡ digits_value_after 10 (n * 10 + (get_or w i 0 - 48)) (drop (i + 1) w)
-more_value w i n h p = at_drop_more (digits_value_after 10 n) w i 0 h ∙ ap (λ d. digits_value_after 10 (n * 10 + d) (drop (i + 1) w)) (digit_value (get_or w i 0) p)
+more_value w i n h p = at_drop_more (digits_value_after 10 n) w i 0 h ∙ ap (λ d. digits_value_after 10 (n * 10 + d) (drop (i + 1) w)) (digit_value_lem (get_or w i 0) p)
 
 pub more_digits : (w : List ℕ) (i : ℕ) → i < length w → is_ascii_digit (get_or w i 0) ≡ true → all_ascii_digits (drop i w) ≡ all_ascii_digits (drop (i + 1) w)
 more_digits w i h p = at_drop_more all_ascii_digits w i 0 h ∙ ap (λ t. t && all_ascii_digits (drop (i + 1) w)) p

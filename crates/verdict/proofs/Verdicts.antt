@@ -48,26 +48,26 @@ module _ (m : Meaning) (listing tree : List ℕ) where
   pub ends_at_present : (s : State) (f : CheckFault) → s ≡ opening → Err f ≡ answer_of (present m s listing) → judged m listing tree ≡ Err (NotPresented f)
   ends_at_present s f start e = ap (λ r. next r headed) (denied_first (present m opening listing) f (e ∙ ap (λ x. answer_of (present m x listing)) start))
 
-  module _ (s now : State) (start : s ≡ opening) (p : Priced) (e : Ok p ≡ answer_of (present m s listing)) (then : now ≡ after s (present m s listing)) (n : ℕ) (n-is : n ≡ m.customers) where
+  module _ (s now : State) (start : s ≡ opening) (p : Priced) (e : Ok p ≡ answer_of (present m s listing)) (then : now ≡ after s (present m s listing)) (n : ℕ) (n_is : n ≡ m.customers) where
     first : judged m listing tree ≡ headed now
     first =
         ap (λ r. next r headed) (granted_first opening (present m opening listing) p (e ∙ ap (λ x. answer_of (present m x listing)) start) ∙ ap Ok (sym (then ∙ ap (λ x. after x (present m x listing)) start)))
 
     pub ends_at_head : (f : TreeFault) → Err f ≡ tree_answer tree n → judged m listing tree ≡ Err (TreeRefused f)
-    ends_at_head f h = first ∙ ap (λ r. next (tree_read r) λ h. asked now h) (sym (h ∙ ap (tree_answer tree) n-is))
+    ends_at_head f h = first ∙ ap (λ r. next (tree_read r) λ h. asked now h) (sym (h ∙ ap (tree_answer tree) n_is))
 
     pub ends_at_walk : (h : TreeHead) (end : State) (r : Result (Unit {0}) JudgeFault) → Ok h ≡ tree_answer tree n → Reached end r (walk_by h.kind m tree now h.count) → judged m listing tree ≡ next r (λ _. Ok (standing end))
     ends_at_walk h end (Ok u) e reached =
-        first ∙ ap (λ r. next (tree_read r) λ h. asked now h) (sym (e ∙ ap (tree_answer tree) n-is)) ∙ ap (λ r. next r λ t. Ok (standing t)) (reached_ok end u _ reached)
+        first ∙ ap (λ r. next (tree_read r) λ h. asked now h) (sym (e ∙ ap (tree_answer tree) n_is)) ∙ ap (λ r. next r λ t. Ok (standing t)) (reached_ok end u _ reached)
     ends_at_walk h end (Err f) e reached =
-        first ∙ ap (λ r. next (tree_read r) λ h. asked now h) (sym (e ∙ ap (tree_answer tree) n-is)) ∙ ap (λ r. next r λ t. Ok (standing t)) (reached_err end f _ reached)
+        first ∙ ap (λ r. next (tree_read r) λ h. asked now h) (sym (e ∙ ap (tree_answer tree) n_is)) ∙ ap (λ r. next r λ t. Ok (standing t)) (reached_err end f _ reached)
 
 -- the verdict from what the calls promise
 module _ {N : Type 0} (meaning : N → Meaning) (network : N) (c0 c1 c2 : Check N) (listing tree : List ℕ) where
   pub verdict_is : network_of c0 ≡ network → state_of c0 ≡ opening → (p : Priced) → Does c0 (present (meaning (network_of c0)) (state_of c0) listing) c1 (Ok p) → (n : ℕ) → n ≡ (meaning network).customers → (h : TreeHead) → Ok h ≡ tree_answer tree n → (u : Unit {0}) → Reached (state_of c2) (Ok u) (walk_by h.kind (meaning (network_of c1)) tree (state_of c1) h.count) → judged (meaning network) listing tree ≡ Ok (standing (state_of c2))
-  verdict_is same start p does n n-is h head u reached =
+  verdict_is same start p does n n_is h head u reached =
       let d = subst (λ x. Does c0 (present (meaning x) (state_of c0) listing) c1 (Ok p)) same does in
-      ends_at_walk (meaning network) listing tree (state_of c0) (state_of c1) start p d.answer d.state n n-is h (state_of c2) (Ok u) head
+      ends_at_walk (meaning network) listing tree (state_of c0) (state_of c1) start p d.answer d.state n n_is h (state_of c2) (Ok u) head
       (subst (λ x. Reached (state_of c2) (Ok u) (walk_by h.kind (meaning x) tree (state_of c1) h.count)) (d.network ∙ same) reached)
 
 -- a verdict over a network blames no text
