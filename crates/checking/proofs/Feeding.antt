@@ -23,14 +23,11 @@ module _ {S N : Type 0} (μ : Measuring S) (meaning : N → Meaning) (calls : Li
       let r = request (get_or calls k call) in
       let d = subst (λ n. Does old (attempt μ (meaning n) (state_of old) r) new a) same does in
       let rest = map request (drop (k + 1) calls) in
-      ap₂ ◌++◌ (take_more_set given k a within_room) refl
+      ap₂ ◌++◌ (take_more_set given k a room) refl
       ∙ append_assoc (take k given) (a ∷ []) (answers μ m (state_of new) rest)
       ∙ ap (λ x. take k given ++ x) (ap₂ (λ x s. x ∷ answers μ m s rest) d.answer d.state)
       ∙ ap (λ x. take k given ++ answers μ m (state_of old) (map request x)) (sym (drop_more calls k call within))
       ∙ so_far
-    where
-      within_room : k < length given
-      within_room = room
 
 pub all_answered : {S : Type 0} (μ : Measuring S) (m : Meaning) (s : State) (calls : List Call) (given : List (Result Grant CheckFault)) (k : ℕ) → k ≡ length calls → Answered μ m s calls given k → take (length calls) given ≡ answers μ m opening (map request calls)
 all_answered μ m s calls given k e so_far =

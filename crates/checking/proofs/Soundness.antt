@@ -34,7 +34,7 @@ pub record Sound (m : Meaning) (s : State) : Type 0 where
 
 pub opening_sound : (m : Meaning) → Sound m opening
 opening_sound m = record {
-  there = λ c e. absurd (let z : ◌≡◌ {A = ℕ} 0 1 = cc in omega arith);
+  there = λ c e. cc;
   covers = λ routes plan cheaper. inl plan;
 }
 
@@ -130,8 +130,8 @@ module _ (m : Meaning) (lawful : Limits m) where
 -- where ask says proved, the cost is that of a cheapest plan
 proved_for : (f : Bool) (held : Option ℕ) (k c : ℕ) → standing_for f held k ≡ Proved c → (f ≡ true) × (held ≡ Some c)
 proved_for true (Some h) k c e = (refl, ap Some (let same : h ≡ c = cc in same))
-proved_for true None k c e = absurd (let z : ◌≡◌ {A = ℕ} 0 1 = cc in omega arith)
-proved_for false held k c e = absurd (let z : ◌≡◌ {A = ℕ} 0 1 = cc in omega arith)
+proved_for true None k c e = cc
+proved_for false held k c e = cc
 
 closed_now : (b : Bool) (P : Type 0) → b ≡ true → MatchBool b ⊥ P → ⊥
 closed_now true P e w = w

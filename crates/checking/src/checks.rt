@@ -1,10 +1,10 @@
 // A check over a network that it keeps.
+use crate::progress::Progress;
 use decisions::layers::DecisionLayer;
 
-// The network under the decisions, the cost of the plan held, if any, and whether the tree is finished.
 #[derive(Drop)]
 pub struct Check<N> {
+    // The network under the decisions.
     pub(crate) layer: DecisionLayer<N>,
-    pub(crate) held: Option<u32>,
-    pub(crate) finished: bool,
+    pub(crate) progress: Progress,
 }

@@ -1,8 +1,9 @@
 // Why a call of the check is denied, with the fault of a listing or a leaf carried whole.
 ghost use Rattle.std.specs.Prelude.{◌≡◌};
-ghost use Rattle.checking.specs.declared.faults.CheckFault.TheVariants.{Listing, Leaf};
+ghost use Rattle.checking.specs.declared.faults.CheckFault.TheVariants.{Full, Leaf, Listing};
 ghost use Rattle.checking.specs.Faults.{check_denial};
 
+use decisions::full::Full;
 use leaf::faults::LeafFault;
 use replay::faults::ListingFault;
 use routing::denials::Denial;
@@ -27,6 +28,7 @@ pub enum CheckFault {
     Leaf(LeafFault),
 }
 
+// By hand, since a clause has to name the fault, and a derived `From` says nothing of it.
 impl From<ListingFault> for CheckFault {
     ghost from_gives = { λ f r. r ≡ Listing f };
 
@@ -43,31 +45,28 @@ impl From<LeafFault> for CheckFault {
     }
 }
 
-fn plain(number: u8, place: usize) -> Denial
-    ensures { (result.number ≡ number) × (result.from ≡ 0) × (result.to ≡ 0) × (result.place ≡ place) }
-{
-    Denial {
-        number,
-        from: 0,
-        to: 0,
-        place,
+impl From<Full> for CheckFault {
+    ghost from_gives = { λ _ r. r ≡ Full };
+
+    fn from(_full: Full) -> CheckFault {
+        CheckFault::Full
     }
 }
 
-impl CheckFault {
-    // The number, arc and place that are handed back, a record's offsets counted from its first byte.
-    pub fn denial(&self) -> Denial
-        ensures { result ≡ check_denial self.now }
-    {
-        match self {
-            CheckFault::Listing(fault) => fault.denial(),
-            CheckFault::NotCheaper { cost } => plain(17, *cost as usize),
-            CheckFault::NotFork => plain(8, 0),
-            CheckFault::Finished => plain(20, 0),
-            CheckFault::NoSuchArc => plain(18, 0),
-            CheckFault::Full => plain(19, 0),
-            CheckFault::NoPlan => plain(21, 0),
-            CheckFault::Leaf(fault) => fault.denial(),
+// The number, arc and place that are handed back, a record's offsets counted from its first byte.
+impl From<CheckFault> for Denial {
+    ghost from_gives = { λ f r. r ≡ check_denial f };
+
+    fn from(fault: CheckFault) -> Denial {
+        match fault {
+            CheckFault::Listing(fault) => Denial::from(fault),
+            CheckFault::NotCheaper { cost } => Denial::at(17, cost as usize),
+            CheckFault::NotFork => Denial::at(8, 0),
+            CheckFault::Finished => Denial::at(20, 0),
+            CheckFault::NoSuchArc => Denial::at(18, 0),
+            CheckFault::Full => Denial::at(19, 0),
+            CheckFault::NoPlan => Denial::at(21, 0),
+            CheckFault::Leaf(fault) => Denial::from(fault),
         }
     }
 }

@@ -6,6 +6,7 @@ ghost use Rattle.checking.specs.States.{network_of, state_of, Does};
 use crate::calls::Standing;
 use crate::checks::Check;
 use crate::faults::CheckFault;
+use crate::progress::Progress;
 use decisions::layers::DecisionLayer;
 use replay::pricing::price;
 use replay::vans::Priced;
@@ -19,8 +20,7 @@ impl<N: Network> Check<N> {
     {
         Check {
             layer: DecisionLayer::new(network),
-            held: None,
-            finished: false,
+            progress: Progress::NoPlan,
         }
     }
 
@@ -29,12 +29,10 @@ impl<N: Network> Check<N> {
         ensures { Does self.old (present (N.Network.meaning (network_of self.old)) (state_of self.old) listing.now) self.new result }
     {
         let priced = price(&self.layer.below, listing)?;
-        if let Some(held) = self.held {
-            if held <= priced.cost {
-                return Err(CheckFault::NotCheaper { cost: priced.cost });
-            }
+        if self.progress.held().is_some_and(|held| held <= priced.cost) {
+            return Err(CheckFault::NotCheaper { cost: priced.cost });
         }
-        self.held = Some(priced.cost);
+        self.progress.hold(priced.cost);
         Ok(priced)
     }
 
@@ -45,16 +43,14 @@ impl<N: Network> Check<N> {
         let [b'A', i, j] = *bytes else {
             return Err(CheckFault::NotFork);
         };
-        if self.finished {
+        if self.progress.is_finished() {
             return Err(CheckFault::Finished);
         }
         let customers = self.layer.below.customers();
         if i > customers || j > customers || i == j {
             return Err(CheckFault::NoSuchArc);
         }
-        if !self.layer.fork(i, j) {
-            return Err(CheckFault::Full);
-        }
+        self.layer.fork(i, j)?;
         Ok(())
     }
 
@@ -62,8 +58,8 @@ impl<N: Network> Check<N> {
     pub fn ask(&self) -> Standing
         ensures { result ≡ standing (state_of self.now) }
     {
-        match self.held {
-            Some(cost) if self.finished => Standing::Proved { cost },
+        match self.progress {
+            Progress::Finished { cost } => Standing::Proved { cost },
             _ => Standing::Open {
                 decisions: self.layer.decisions.len(),
             },
@@ -76,11 +72,7 @@ impl<N: Network> Check<N> {
         ensures answer { result.1 ≡ standing (state_of self) }
     {
         let standing = self.ask();
-        let Check {
-            layer,
-            held: _,
-            finished: _,
-        } = self;
+        let Check { layer, progress: _ } = self;
         (layer.into_below(), standing)
     }
 }

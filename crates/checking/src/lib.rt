@@ -7,4 +7,5 @@ pub mod closing;
 pub mod faults;
 pub mod keeping;
 pub mod logs;
+mod progress;
 pub mod running;

@@ -10,23 +10,14 @@ use measures::measure::Measure;
 use routing::networks::Network;
 
 impl<N: Network> Check<N> {
-    // Any call, with its answer.
+    // Any call, with its answer: calls are what a log holds, so they are values and no closures.
     pub fn take<M: Measure>(&mut self, measure: &M, call: Call<'_>) -> Answer
         ensures { Does self.old (attempt (M.Measure.meaning measure.now) (N.Network.meaning (network_of self.old)) (state_of self.old) (request call.entry)) self.new result }
     {
         match call {
-            Call::Present(listing) => match self.present(listing) {
-                Ok(priced) => Ok(Grant::Presented(priced)),
-                Err(fault) => Err(fault),
-            },
-            Call::Fork(bytes) => match self.fork(bytes) {
-                Ok(()) => Ok(Grant::Forked),
-                Err(fault) => Err(fault),
-            },
-            Call::Close(bytes) => match self.close(measure, bytes) {
-                Ok(()) => Ok(Grant::Closed),
-                Err(fault) => Err(fault),
-            },
+            Call::Present(listing) => self.present(listing).map(Grant::Presented),
+            Call::Fork(bytes) => self.fork(bytes).map(|()| Grant::Forked),
+            Call::Close(bytes) => self.close(measure, bytes).map(|()| Grant::Closed),
             Call::Ask => Ok(Grant::Stands(self.ask())),
         }
     }

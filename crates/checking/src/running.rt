@@ -7,7 +7,7 @@ use measures::measure::Measure;
 use routing::networks::Network;
 
 // Makes a check over a network, feeds it the calls in turn, and gives back the network, with the answers in the front of
-// the list that is lent. Where that list is shorter than the calls, nothing is done.
+// the list that is lent. Where that list is shorter than the calls, which is the one reason to fail, nothing is done.
 pub fn run_log<N: Network, M: Measure>(
     network: N,
     measure: &M,
@@ -20,6 +20,7 @@ pub fn run_log<N: Network, M: Measure>(
         return Err(network);
     }
     let mut check = Check::new(network);
+    // By index, since no proof knows what is written through a zip of `iter_mut`.
     for (k, call) in calls.iter().enumerate() {
         answers[k] = check.take(measure, *call);
     }

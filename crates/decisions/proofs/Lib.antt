@@ -1,3 +1,4 @@
+pub mod Carried
 pub mod Decided
 pub mod Ends
 pub mod Forks

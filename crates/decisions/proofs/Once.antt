@@ -1,8 +1,8 @@
 -- A plan uses at most one arc out of a customer, and at most one into a customer.
-use Rattle.std.proofs.Common.{◌≡◌, ℕ, ◌<◌, ◌≤◌, true, cond, ◌||◌, List, [], ◌∷◌, ◌++◌, map, sym, refl, ap, ◌∙◌, ⊎_elim, arith}
+use Rattle.std.proofs.Common.{◌≡◌, ℕ, ◌<◌, ◌≤◌, true, ◌||◌, List, [], ◌∷◌, ◌++◌, map, sym, refl, ap, ap₂, ◌∙◌, ⊎_elim, arith}
 use Rattle.std.proofs.ByRecursion.{All-append}
 use Rattle.std.proofs.lemmas.List.{map-append}
-use Rattle.std.proofs.lemmas.Bool.{cases_Bool, cases_lt, and_parts, eqb-true}
+use Rattle.std.proofs.lemmas.Bool.{cases_Bool, cases_lt, and_parts, eqb-true, false≢true}
 use Rattle.std.specs.List.{AllByRecursion}
 use Rattle.routing.specs.Network.{Meaning}
 use Rattle.routing.specs.Routes.{count, visits, Customer, Drivable, Plan}
@@ -12,9 +12,7 @@ use Rattle.decisions.specs.Arcs.{arcs_from, route_arcs, plan_arcs, same_arc, use
 pub same_is : (a b : ℕ × ℕ) → same_arc a b ≡ true → a ≡ b
 same_is a b e =
     let p = and_parts _ _ e in
-    let from = eqb-true a.0 b.0 p.0 in
-    let to = eqb-true a.1 b.1 p.1 in
-    λ k. (from k, to k)
+    ap₂ (λ i j. (i, j)) (eqb-true a.0 b.0 p.0) (eqb-true a.1 b.1 p.1)
 
 -- the starts and the ends of a route's arcs are its stops and the depot
 starts : (i : ℕ) (stops : List ℕ) → map (λ a. a.0) (arcs_from i stops) ≡ i ∷ stops
@@ -67,7 +65,7 @@ none_like f x (a ∷ arcs) none = (
 )
 
 used_counts : (f : ℕ × ℕ → ℕ) (x : ℕ × ℕ) (arcs : List (ℕ × ℕ)) → uses x arcs ≡ true → 1 ≤ count (f x) (map f arcs)
-used_counts f x [] e = absurd (let z : ◌≡◌ {A = ℕ} 0 1 = ap (λ b. cond {A = ℕ} b 1 0) e in omega arith)
+used_counts f x [] e = absurd (false≢true e)
 used_counts f x (a ∷ arcs) e =
     ⊎_elim
     (λ here. omega (arith, ap (λ y. count (f x) (f y ∷ map f arcs)) (same_is a x here), count_same (f x) (map f arcs)))

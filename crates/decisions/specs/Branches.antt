@@ -1,22 +1,12 @@
 -- The decisions of a branch as a list, and how a search goes from one branch to the next.
-use Rattle.std.specs.Prelude.{Bool, false, cond, List, [], ◌∷◌, take, Some, None, Option}
+use Rattle.std.specs.Prelude.{Bool, false, cond, ◌-◌, List, [], ◌∷◌, length, Some, None, Option, slice_get}
 use Rattle.decisions.specs.declared.decision.Decision.{Decision}
 use Rattle.decisions.specs.declared.decisions.Decisions.{Decisions}
 use Rattle.decisions.specs.Decisions.{second, turned}
 
 -- the decisions kept, from the first to the last
 abbrev pub kept : Decisions → List Decision
-kept x = take x.len x.entries
-
-abbrev pub last_of : List Decision → Option Decision
-last_of [] = None
-last_of (d ∷ []) = Some d
-last_of (d ∷ (e ∷ ds)) = last_of (e ∷ ds)
-
-abbrev pub all_but_last : List Decision → List Decision
-all_but_last [] = []
-all_but_last (d ∷ []) = []
-all_but_last (d ∷ (e ∷ ds)) = d ∷ all_but_last (e ∷ ds)
+kept x = x.list.items
 
 -- the last decision on its second side
 abbrev pub turned_last : List Decision → List Decision
@@ -30,7 +20,7 @@ some_second None = false
 some_second (Some d) = second d
 
 abbrev pub ends_second : List Decision → Bool
-ends_second ds = some_second (last_of ds)
+ends_second ds = some_second (slice_get ds (length ds - 1))
 
 -- a decision before others: dropped where it is last and on its second side
 abbrev pub unless_second : Decision → List Decision → List Decision

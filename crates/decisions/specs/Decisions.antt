@@ -1,5 +1,7 @@
 -- Branching decisions on arcs, and what is left of a network under them.
 use Rattle.std.specs.Prelude.{ℕ, Bool, true, false, cond, not, ◌&&◌, ◌||◌, List, [], ◌∷◌, None, Option, ◌==◌}
+use Rattle.std.specs.List.{list_any}
+use Rattle.routing.specs.declared.cells.Road.{Road}
 use Rattle.routing.specs.Network.{Meaning}
 use Rattle.decisions.specs.declared.decision.Decision.{Decision}
 use Rattle.decisions.specs.declared.decision.Side.{Side}
@@ -39,7 +41,7 @@ abbrev pub removes : Decision → ℕ → ℕ → Bool
 removes d = removes_on d.side d
 
 abbrev pub Arcs : Type 0
-Arcs = ℕ → ℕ → Option (ℕ × ℕ)
+Arcs = ℕ → ℕ → Option Road
 
 -- the arcs that a decision leaves
 abbrev pub left_by : Decision → Arcs → Arcs
@@ -63,5 +65,4 @@ decided m ds = with_arcs m (left_by_all ds m.arc)
 
 -- some decision removes the arc from i to j
 abbrev pub removed : List Decision → ℕ → ℕ → Bool
-removed [] i j = false
-removed (d ∷ ds) i j = removes d i j || removed ds i j
+removed ds i j = list_any (λ d. removes d i j) ds

@@ -3,4 +3,5 @@ pub mod Branches
 pub mod Decisions
 pub mod Forks
 pub mod Lawful
+pub mod Layers
 pub mod Parts

@@ -2,15 +2,16 @@
 ghost use Rattle.std.specs.Prelude.{◌≡◌};
 ghost use Rattle.decisions.specs.Decisions.{removes, second, turned, forbid};
 
-#[derive(Clone, Copy)]
+#[derive(Clone, Copy, PartialEq, Eq, Default)]
 pub enum Side {
     // The arc is forbidden.
+    #[default]
     First,
     // The arc is forced.
     Second,
 }
 
-#[derive(Clone, Copy)]
+#[derive(Clone, Copy, Default)]
 pub struct Decision {
     pub from: u8,
     pub to: u8,
@@ -32,10 +33,14 @@ impl Decision {
     pub fn is_second(&self) -> bool
         ensures { result ≡ second self.now }
     {
-        match self.side {
-            Side::First => false,
-            Side::Second => true,
-        }
+        self.side == Side::Second
+    }
+
+    // Goes over to the second side.
+    pub fn turn(&mut self)
+        ensures { self.new ≡ turned self.old }
+    {
+        self.side = Side::Second;
     }
 
     // Whether the arc from i to j is gone under the decision.
@@ -49,11 +54,4 @@ impl Decision {
             Side::Second => (leaves && i != 0 && !enters) || (enters && j != 0 && !leaves),
         }
     }
-}
-
-// Goes over to the second side.
-pub fn turn(decision: &mut Decision)
-    ensures { decision.new ≡ turned decision.old }
-{
-    decision.side = Side::Second;
 }

@@ -3,7 +3,7 @@
 
 pub mod decision;
 pub mod decisions;
-pub mod keeping;
+pub mod full;
 pub mod layers;
 #[cfg(test)]
 mod tests;

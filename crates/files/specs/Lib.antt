@@ -2,3 +2,4 @@ pub mod Faults
 pub mod Judging
 pub mod Line
 pub mod Pricing
+pub mod Reading

@@ -1,5 +1,6 @@
 -- The bytes of the line that is printed, and which line an answer gets.
 use Rattle.std.specs.Prelude.{ℕ, List, ◌++◌, Ok, Err, codes, decimal, Result}
+use Rattle.routing.specs.declared.denials.Denial.{Denial}
 use Rattle.replay.specs.declared.vans.Priced.{Priced}
 use Rattle.files.specs.declared.faults.FileFault.{FileFault}
 use Rattle.files.specs.declared.faults.Part.{Part}
@@ -21,6 +22,10 @@ line_bytes (Open decisions) = codes "open " ++ decimal decisions
 line_bytes (Fault number part node from to place) =
     codes "fault " ++ (decimal number ++ (codes " " ++ (part_bytes part ++ (codes " node " ++ (decimal node ++ (codes " arc " ++ (decimal from ++ (codes " " ++ (decimal to ++ (codes " place " ++ decimal place))))))))))
 
+-- the line of a denial, by the file and the node that it is found in
+abbrev pub fault_line : Part → ℕ → Denial → Line
+fault_line part node d = Fault d.number part node d.from d.to d.place
+
 abbrev pub line_of : Result Priced FileFault → Line
 line_of (Ok p) = PricedLine p.cost p.routes
-line_of (Err f) = Fault (file_denial f).number (file_part f) 0 (file_denial f).from (file_denial f).to (file_denial f).place
+line_of (Err f) = fault_line (file_part f) 0 (file_denial f)

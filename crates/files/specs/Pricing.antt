@@ -1,31 +1,17 @@
 -- What two files are answered: the price of the plan on the case's network, or the first fault.
-use Rattle.std.specs.Prelude.{◌≡◌, ℕ, List, Ok, Err, Option, Result}
-use Rattle.routing.specs.declared.cells.Head.{Head}
-use Rattle.routing.specs.declared.cells.Place.{Place}
-use Rattle.routing.specs.declared.cells.Road.{Road}
+use Rattle.std.specs.Prelude.{◌≡◌, ℕ, List, Ok, Err, Result}
 use Rattle.routing.specs.Network.{Meaning}
 use Rattle.routing.specs.Routes.{Plan}
-use Rattle.routing.specs.Tables.{table_meaning}
 use Rattle.replay.specs.declared.vans.Priced.{Priced}
 use Rattle.replay.specs.declared.faults.ListingFault.{ListingFault}
 use Rattle.replay.specs.Answer.{price_answer}
 use Rattle.replay.specs.Listing.{written}
 use Rattle.replay.specs.Prices.{price_of}
-use Rattle.texts.specs.Cases.{case_judged, case_answer, case_of}
 use Rattle.texts.specs.Plans.{plan_answer}
-use Rattle.texts.specs.Written.{CaseText, PlanText}
+use Rattle.texts.specs.Written.{PlanText}
 use Rattle.files.specs.declared.faults.FileFault.{FileFault}
-use Rattle.files.specs.declared.faults.FileFault.TheVariants.{CaseRefused, PlanRefused, Listing}
-
--- the case text is that of a network: its words are those of a head and of the fronts of tables, written out, with this
--- meaning
-pub record CaseNetwork (text : List ℕ) (m : Meaning) : Type 0 where
-  pub head : Head
-  pub places : List Place
-  pub arcs : List (Option Road)
-  pub written : CaseText text (case_of head places arcs)
-  pub read : case_judged text ≡ Ok (case_of head places arcs)
-  pub means : m ≡ table_meaning head places arcs
+use Rattle.files.specs.declared.faults.FileFault.TheVariants.{Refused, Listing}
+use Rattle.files.specs.Reading.{CaseNetwork, Denied}
 
 abbrev pub listing_answer : Result Priced ListingFault → Result Priced FileFault
 listing_answer (Ok p) = Ok p
@@ -50,6 +36,5 @@ pub record PricedPlan (case plan : List ℕ) (p : Priced) : Type 0 where
 
 abbrev pub FilesPriced : List ℕ → List ℕ → Result Priced FileFault → Type 0
 FilesPriced case plan (Ok p) = BothRead case plan (Ok p) × PricedPlan case plan p
-FilesPriced case plan (Err (CaseRefused f)) = case_answer case 61 3721 ≡ Err f
-FilesPriced case plan (Err (PlanRefused f)) = (m : Meaning) × CaseNetwork case m × (plan_answer plan 120 ≡ Err f)
+FilesPriced case plan (Err (Refused f)) = Denied case plan f
 FilesPriced case plan (Err (Listing f)) = BothRead case plan (Err (Listing f))

@@ -1,7 +1,7 @@
 // Which file a fault is found in, with the fault carried whole.
 ghost use Rattle.std.specs.Prelude.{◌≡◌};
-ghost use Rattle.files.specs.declared.faults.FileFault.TheVariants.{Listing};
-ghost use Rattle.files.specs.Faults.{text_denial, file_denial, file_part};
+ghost use Rattle.files.specs.declared.faults.FileFault.TheVariants.{Refused, Listing};
+ghost use Rattle.files.specs.Faults.{refused_denial, refused_part, file_denial, file_part};
 
 use replay::faults::ListingFault;
 use routing::denials::Denial;
@@ -14,14 +14,28 @@ pub enum Part {
     Tree,
 }
 
+// A text that is refused.
+#[derive(Clone, Copy)]
+pub enum RefusedText {
+    Case(TextFault),
+    Plan(TextFault),
+}
+
 #[derive(Clone, Copy)]
 pub enum FileFault {
-    // The case text is refused.
-    CaseRefused(TextFault),
-    // The plan text is refused.
-    PlanRefused(TextFault),
+    // The case text or the plan text is refused.
+    Refused(RefusedText),
     // The plan's listing is denied.
     Listing(ListingFault),
+}
+
+// By hand, since a clause has to name the fault, and a derived `From` says nothing of it.
+impl From<RefusedText> for FileFault {
+    ghost from_gives = { λ f r. r ≡ Refused f };
+
+    fn from(fault: RefusedText) -> FileFault {
+        FileFault::Refused(fault)
+    }
 }
 
 impl From<ListingFault> for FileFault {
@@ -32,36 +46,46 @@ impl From<ListingFault> for FileFault {
     }
 }
 
-// The number and place of a text's fault; it names no arc.
-pub fn text_denial(fault: TextFault) -> Denial
-    ensures { result ≡ text_denial fault }
-{
-    Denial {
-        number: fault.number(),
-        from: 0,
-        to: 0,
-        place: fault.place(),
+impl From<RefusedText> for Denial {
+    ghost from_gives = { λ f r. r ≡ refused_denial f };
+
+    fn from(fault: RefusedText) -> Denial {
+        match fault {
+            RefusedText::Case(fault) => Denial::from(fault),
+            RefusedText::Plan(fault) => Denial::from(fault),
+        }
+    }
+}
+
+// The number, arc and place that are handed back.
+impl From<FileFault> for Denial {
+    ghost from_gives = { λ f r. r ≡ file_denial f };
+
+    fn from(fault: FileFault) -> Denial {
+        match fault {
+            FileFault::Refused(fault) => Denial::from(fault),
+            FileFault::Listing(fault) => Denial::from(fault),
+        }
+    }
+}
+
+impl RefusedText {
+    pub fn part(&self) -> Part
+        ensures { result ≡ refused_part self.now }
+    {
+        match self {
+            RefusedText::Case(_) => Part::Case,
+            RefusedText::Plan(_) => Part::Plan,
+        }
     }
 }
 
 impl FileFault {
-    // The number, arc and place that are handed back.
-    pub fn denial(&self) -> Denial
-        ensures { result ≡ file_denial self.now }
-    {
-        match self {
-            FileFault::CaseRefused(fault) => text_denial(*fault),
-            FileFault::PlanRefused(fault) => text_denial(*fault),
-            FileFault::Listing(fault) => fault.denial(),
-        }
-    }
-
     pub fn part(&self) -> Part
         ensures { result ≡ file_part self.now }
     {
         match self {
-            FileFault::CaseRefused(_) => Part::Case,
-            FileFault::PlanRefused(_) => Part::Plan,
+            FileFault::Refused(fault) => fault.part(),
             FileFault::Listing(_) => Part::Plan,
         }
     }

@@ -1,9 +1,10 @@
 // The line that is printed.
 ghost use Rattle.std.specs.Prelude.{◌≡◌, Some};
-ghost use Rattle.files.specs.Line.{part_bytes, line_bytes, line_of};
+ghost use Rattle.files.specs.Line.{part_bytes, line_bytes, fault_line, line_of};
 
 use crate::faults::{FileFault, Part};
 use replay::vans::Priced;
+use routing::denials::Denial;
 use std::fmt;
 
 impl fmt::Display for Part {
@@ -68,7 +69,24 @@ impl fmt::Display for Line {
     }
 }
 
-// The line of an answer; outside the tree's records the node is 0.
+impl Line {
+    // The line of a denial, by the file and the node that it is found in.
+    pub fn fault(part: Part, node: usize, denial: Denial) -> Line
+        ensures { result ≡ fault_line part node denial }
+    {
+        Line::Fault {
+            number: denial.number,
+            part,
+            node,
+            from: denial.from,
+            to: denial.to,
+            place: denial.place,
+        }
+    }
+}
+
+// The line of an answer; outside the tree's records the node is 0. It is a function and no `From`, which no crate above
+// could write for its own answers.
 pub fn line_for(answer: Result<Priced, FileFault>) -> Line
     ensures { result ≡ line_of answer }
 {
@@ -77,17 +95,6 @@ pub fn line_for(answer: Result<Priced, FileFault>) -> Line
             cost: priced.cost,
             routes: priced.routes,
         },
-        Err(fault) => {
-            let denial = fault.denial();
-            let part = fault.part();
-            Line::Fault {
-                number: denial.number,
-                part,
-                node: 0,
-                from: denial.from,
-                to: denial.to,
-                place: denial.place,
-            }
-        }
+        Err(fault) => Line::fault(fault.part(), 0, Denial::from(fault)),
     }
 }

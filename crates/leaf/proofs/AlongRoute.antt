@@ -4,6 +4,7 @@ use Rattle.std.proofs.ByRecursion.{All-weaker}
 use Rattle.std.proofs.lemmas.Int.{ints}
 use Rattle.std.specs.List.{AllByRecursion}
 use Rattle.routing.specs.declared.cells.Place.{Place}
+use Rattle.routing.specs.declared.cells.Road.{Road}
 use Rattle.routing.specs.Network.{Meaning, Limits}
 use Rattle.routing.specs.Routes.{Drivable, Customer, cost_from, arc_cost, route_cost}
 use Rattle.measures.specs.Measure.{Measuring, Laws, Steps, after_arc, moved, move_of, move}
@@ -14,13 +15,13 @@ use Rattle.leaf.proofs.Best.{best_reached}
 use Rattle.leaf.proofs.Sums.{total_z}
 
 -- a step that is there has its arc there
-moved_arc : {S : Type 0} (μ : Measuring S) (m : Meaning) (s y : S) (i j : ℕ) (left reached : Option Place) (arc : Option (ℕ × ℕ)) → moved μ s (move_of m i j left reached arc) ≡ Some y → (a : ℕ × ℕ) × (arc ≡ Some a)
+moved_arc : {S : Type 0} (μ : Measuring S) (m : Meaning) (s y : S) (i j : ℕ) (left reached : Option Place) (arc : Option Road) → moved μ s (move_of m i j left reached arc) ≡ Some y → (a : Road) × (arc ≡ Some a)
 moved_arc μ m s y i j None reached arc e = absurd (let z : ◌≡◌ {A = ℕ} 0 1 = cc in omega arith)
 moved_arc μ m s y i j (Some p) None arc e = absurd (let z : ◌≡◌ {A = ℕ} 0 1 = cc in omega arith)
 moved_arc μ m s y i j (Some p) (Some q) None e = absurd (let z : ◌≡◌ {A = ℕ} 0 1 = cc in omega arith)
 moved_arc μ m s y i j (Some p) (Some q) (Some a) e = (a, refl)
 
-pub step_arc : {S : Type 0} (μ : Measuring S) (m : Meaning) (s y : S) (i j : ℕ) → after_arc μ m s i j ≡ Some y → (a : ℕ × ℕ) × (m.arc i j ≡ Some a)
+pub step_arc : {S : Type 0} (μ : Measuring S) (m : Meaning) (s y : S) (i j : ℕ) → after_arc μ m s i j ≡ Some y → (a : Road) × (m.arc i j ≡ Some a)
 step_arc μ m s y i j e = moved_arc μ m s y i j (m.place i) (m.place j) (m.arc i j) e
 
 -- a state at most another has a step wherever that has one, and to a state at most its end
@@ -38,12 +39,12 @@ module _ {S : Type 0} (μ : Measuring S) (m : Meaning) (leaf : Leaf S) (laws : L
   along {s} {i} (home y is) all v p low at_home onward =
       let arc = step_arc μ m s y i 0 is in
       let x = moves_alike μ laws p s y (move m i 0) low is in
-      let last = at_home refl arc.0.0 arc.0.1 arc.1 x.0 x.1 in
+      let last = at_home refl arc.0 arc.1 x.0 x.1 in
       omega (arith, ints, ap (λ o. leaf.scale * arc_cost o) arc.1)
   along {s} {i} (stop {j = j} y is on) all v p low at_home onward =
       let arc = step_arc μ m s y i j is in
       let x = moves_alike μ laws p s y (move m i j) low is in
-      let next = onward j all.0 arc.0.0 arc.0.1 arc.1 x.0 x.1 in
+      let next = onward j all.0 arc.0 arc.1 x.0 x.1 in
       let reached = best_reached μ j x.0 (EntryHolds μ m leaf) leaf.entries next.0 rule.entries next.1 in
       let e = reached.0 in
       let kept : EntryHolds μ m leaf e = reached.1 in

@@ -1,11 +1,11 @@
 -- The best value among the entries that count at a place and a state: it is reached, and no counted entry is above it.
 use Rattle.std.proofs.Common.{◌≡◌, ℕ, Bool, true, false, ◌&&◌, eqb, ◌⊎◌, List, [], ◌∷◌, ℤ, ◌≤ℤ◌, Some, None, Option, sym, refl, ap, ◌∙◌, inl, inr, ⊎_elim, arith}
 use lib.Signed.{lt_z}
-use Rattle.std.proofs.ByRecursion.{All-weaker, all-has}
+use Rattle.std.proofs.ByRecursion.{All-weaker}
 use Rattle.std.proofs.lemmas.Int.{ints, clamps}
 use Rattle.std.proofs.lemmas.Bool.{cases_Bool, cases_cond, cond-true, cond-false, and_parts, and_from, eq-eqb, eqb-true}
 use Rattle.std.specs.Int.{int_max}
-use Rattle.std.specs.List.{ContainsAt as Has, AllByRecursion}
+use Rattle.std.specs.List.{AllByRecursion}
 use Rattle.measures.specs.Measure.{Measuring}
 use Rattle.leaf.specs.declared.potentials.Potential.{Potential}
 use Rattle.leaf.specs.Rule.{best, larger}
@@ -80,6 +80,3 @@ module _ {S : Type 0} (μ : Measuring S) (j : ℕ) (y : S) where
     },
     All-weaker (λ x. Counts μ j y x → Bounded (best μ es j y) x.value) (λ x. Counts μ j y x → Bounded (best μ (e ∷ es) j y) x.value) (λ x b c. bounds_more e es x.value (b c)) es (best_bounds es),
   )
-
-  pub best_bounds_each : (es : List (Potential S)) (e : Potential S) → Has es e → Counts μ j y e → Bounded (best μ es j y) e.value
-  best_bounds_each es e has = all-has (λ x. Counts μ j y x → Bounded (best μ es j y) x.value) es e (best_bounds es) has

@@ -13,9 +13,9 @@ use Rattle.leaf.proofs.AlongRoute.{route_bounds}
 use Rattle.leaf.proofs.Sums.{total_z, totalZ_append, totalZ_once}
 
 -- the vans that the price counts cost at most those of any fleet in the limits
-counted_least : (m : Meaning) (r : ℤ) (k : ℕ) → m.fleet.0 ≤ k → k ≤ m.fleet.1 → (r *ℤ pos (vans_counted m r)) ≤ℤ (r *ℤ pos k)
+counted_least : (m : Meaning) (r : ℤ) (k : ℕ) → m.fleet.least ≤ k → k ≤ m.fleet.most → (r *ℤ pos (vans_counted m r)) ≤ℤ (r *ℤ pos k)
 counted_least m (pos a) k least most =
-    let counted : vans_counted m (pos a) ≡ m.fleet.0 = cond-false _ _ _ (le-ltb a 0 (omega arith)) in
+    let counted : vans_counted m (pos a) ≡ m.fleet.least = cond-false _ _ _ (le-ltb a 0 (omega arith)) in
     omega (arith, ints, ap (λ n. a * n) counted, mul-le-mul_left a least)
 counted_least m (negsuc a) k least most = omega (arith, ints, mul-le-mul_left (suc a) most)
 

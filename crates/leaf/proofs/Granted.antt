@@ -1,12 +1,13 @@
 -- The answer grants a leaf exactly when its rule holds.
-use Rattle.std.proofs.Common.{◌≡◌, ℕ, zero, suc, ◌+◌, ◌*◌, ◌<◌, ◌≤◌, Bool, true, false, cond, List, [], ◌∷◌, ℤ, pos, ◌+ℤ◌, ◌-ℤ◌, ◌≤ℤ◌, ◌<ℤ◌, Some, None, Ok, Err, Option, Result, sym, refl, ap, ◌∙◌, ⊎_elim, arith}
+use Rattle.std.proofs.Common.{◌≡◌, ℕ, ◌+◌, ◌*◌, ◌≤◌, Bool, true, false, cond, List, [], ◌∷◌, ℤ, pos, ◌+ℤ◌, ◌-ℤ◌, ◌≤ℤ◌, ◌<ℤ◌, Some, None, Ok, Err, Option, Result, sym, refl, ap, ◌∙◌, ⊎_elim, arith}
 use lib.Signed.{lt_z, le_z}
 use Rattle.std.proofs.lemmas.Int.{ints}
 use Rattle.std.proofs.lemmas.Bool.{cond-true, cond-false, cases_eq, eq-eqb, ne_eqb, false≢true}
 use Rattle.std.specs.List.{AllByRecursion}
 use Rattle.routing.specs.declared.cells.Place.{Place}
+use Rattle.routing.specs.declared.cells.Road.{Road}
 use Rattle.routing.specs.Network.{Meaning, Limits}
-use Rattle.measures.specs.Measure.{Measuring, Laws, move, moved}
+use Rattle.measures.specs.Measure.{Measuring, Laws, after_arc, move, moved}
 use Rattle.measures.specs.declared.moves.Move.{Move}
 use Rattle.leaf.specs.declared.faults.LeafFault.{LeafFault}
 use Rattle.leaf.specs.declared.faults.LeafFault.TheVariants.{Depot, Entry}
@@ -17,6 +18,7 @@ use Rattle.leaf.specs.Judges.{Judges}
 use Rattle.leaf.specs.Record.{Reads, entries_at, entry_size}
 use Rattle.leaf.specs.Rule.{Leaf, Holds, Onward, EntryHolds, best, bound, dual}
 use Rattle.leaf.proofs.Bounds.{leaf_bounds}
+use Rattle.leaf.proofs.Firsts.{all_pass, pass_all}
 use Rattle.leaf.proofs.Saying.{after_ok, reads_from, reads_to}
 
 le_from_test : (a b : ℤ) → le_z a b ≡ true → a ≤ℤ b
@@ -31,41 +33,34 @@ lt_from_test a b e = grind (arith, ints)
 test_from_lt : (a b : ℤ) → a <ℤ b → lt_z a b ≡ true
 test_from_lt a b lt = grind (arith, ints)
 
--- what the rule asks along an arc, apart from where the arc and the move come from
-module _ {S : Type 0} (μ : Measuring S) (leaf : Leaf S) (v : ℤ) (s : S) (j : ℕ) where
-  abbrev Asks : Option (ℕ × ℕ) → Option Move → Type 0
-  Asks arc by =
-      (cost travel : ℕ) → arc ≡ Some (cost, travel) → (y : S) → moved μ s by ≡ Some y → (h : ℤ) × (best μ leaf.entries j y ≡ Some h) × (v ≤ℤ ((pos (leaf.scale * cost) -ℤ dual leaf j) +ℤ h))
+module _ {S : Type 0} (μ : Measuring S) (m : Meaning) (leaf : Leaf S) (v : ℤ) (s : S) (i j : ℕ) where
+  -- the test of a drive along a road, whether or not the move and the step are there
+  along_step : (road : Road) (by : Option Move) → drive_ok μ leaf v s j (drive_along (Some road) by) ≡ step_ok μ leaf v j road.cost (moved μ s by)
+  along_step road None = refl
+  along_step road (Some by) = refl
 
-  abbrev AsksHome : Option (ℕ × ℕ) → Option Move → Type 0
-  AsksHome arc by = (cost travel : ℕ) → arc ≡ Some (cost, travel) → (y : S) → moved μ s by ≡ Some y → v ≤ℤ pos (leaf.scale * cost)
+  road_step : (road : Road) → m.arc i j ≡ Some road → arc_ok μ m leaf v s i j ≡ step_ok μ leaf v j road.cost (after_arc μ m s i j)
+  road_step road is = ap (λ a. drive_ok μ leaf v s j (drive_along a (move m i j))) is ∙ along_step road (move m i j)
+
+  reached : (road : Road) → m.arc i j ≡ Some road → (y : S) → after_arc μ m s i j ≡ Some y → arc_ok μ m leaf v s i j ≡ true → step_ok μ leaf v j road.cost (Some y) ≡ true
+  reached road is y steps e = ap (step_ok μ leaf v j road.cost) (sym steps) ∙ sym (road_step road is) ∙ e
 
   potential_met : (least : ℤ) (o : Option ℤ) → potential_ok v least o ≡ true → (h : ℤ) × (o ≡ Some h) × (v ≤ℤ (least +ℤ h))
   potential_met least None e = absurd (false≢true e)
   potential_met least (Some h) e = (h, refl, le_from_test v (least +ℤ h) e)
 
-  met_onward : (arc : Option (ℕ × ℕ)) (by : Option Move) → 1 ≤ j → drive_ok μ leaf v s j (drive_along arc by) ≡ true → Asks arc by
-  met_onward None by low e cost travel is y steps = absurd (let z : ◌≡◌ {A = ℕ} 0 1 = cc in omega arith)
-  met_onward (Some a) None low e cost travel is y steps = absurd (let z : ◌≡◌ {A = ℕ} 0 1 = cc in omega arith)
-  met_onward (Some a) (Some by) low e cost travel is y steps =
-      let same : a.0 ≡ cost = ap (λ (o : Option (ℕ × ℕ)). first o) is in
-      let test : potential_ok v (pos (leaf.scale * cost) -ℤ dual leaf j) (best μ leaf.entries j y) ≡ true = sym (cond-false _ _ _ (ne_eqb j 0 (λ z. omega arith))) ∙ ap (λ k. step_ok μ leaf v j k (Some y)) (sym same) ∙ ap (step_ok μ leaf v j a.0) (sym steps) ∙ e in
-      potential_met (pos (leaf.scale * cost) -ℤ dual leaf j) (best μ leaf.entries j y) test
-    where
-      first : Option (ℕ × ℕ) → ℕ
-      first None = 0
-      first (Some p) = p.0
+  met_onward : 1 ≤ j → arc_ok μ m leaf v s i j ≡ true → Onward μ m leaf v s i j
+  met_onward low e road is y steps =
+      potential_met _ (best μ leaf.entries j y) (sym (cond-false _ _ _ (ne_eqb j 0 (λ z. omega arith))) ∙ reached road is y steps e)
 
-  met_home : (arc : Option (ℕ × ℕ)) (by : Option Move) → j ≡ 0 → drive_ok μ leaf v s j (drive_along arc by) ≡ true → AsksHome arc by
-  met_home None by home e cost travel is y steps = absurd (let z : ◌≡◌ {A = ℕ} 0 1 = cc in omega arith)
-  met_home (Some a) None home e cost travel is y steps = absurd (let z : ◌≡◌ {A = ℕ} 0 1 = cc in omega arith)
-  met_home (Some a) (Some by) home e cost travel is y steps =
-      let same : a.0 ≡ cost = ap (λ (o : Option (ℕ × ℕ)). first o) is in
-      le_from_test v (pos (leaf.scale * cost)) (sym (cond-true _ _ _ (eq-eqb j 0 home)) ∙ ap (λ k. step_ok μ leaf v j k (Some y)) (sym same) ∙ ap (step_ok μ leaf v j a.0) (sym steps) ∙ e)
-    where
-      first : Option (ℕ × ℕ) → ℕ
-      first None = 0
-      first (Some p) = p.0
+  met_home : j ≡ 0 → arc_ok μ m leaf v s i j ≡ true → (road : Road) → m.arc i j ≡ Some road → (y : S) → after_arc μ m s i j ≡ Some y → v ≤ℤ pos (leaf.scale * road.cost)
+  met_home home e road is y steps =
+      le_from_test v _ (sym (cond-true _ _ _ (eq-eqb j 0 home)) ∙ reached road is y steps e)
+
+  -- an arc that is absent asks nothing, nor does a step
+  absent_ok : (arc : Option Road) → m.arc i j ≡ arc → ((road : Road) → arc ≡ Some road → step_ok μ leaf v j road.cost (after_arc μ m s i j) ≡ true) → arc_ok μ m leaf v s i j ≡ true
+  absent_ok None is kept = ap (λ a. drive_ok μ leaf v s j (drive_along a (move m i j))) is
+  absent_ok (Some road) is kept = road_step road is ∙ kept road refl
 
   step_onward : (cost : ℕ) (o : Option S) → 1 ≤ j → ((y : S) → o ≡ Some y → (h : ℤ) × (best μ leaf.entries j y ≡ Some h) × (v ≤ℤ ((pos (leaf.scale * cost) -ℤ dual leaf j) +ℤ h))) → step_ok μ leaf v j cost o ≡ true
   step_onward cost None low asks = refl
@@ -77,31 +72,11 @@ module _ {S : Type 0} (μ : Measuring S) (leaf : Leaf S) (v : ℤ) (s : S) (j : 
   step_home cost None home asks = refl
   step_home cost (Some y) home asks = cond-true _ _ _ (eq-eqb j 0 home) ∙ test_from_le v _ (asks y refl)
 
-  onward_met : (arc : Option (ℕ × ℕ)) (by : Option Move) → 1 ≤ j → Asks arc by → drive_ok μ leaf v s j (drive_along arc by) ≡ true
-  onward_met None by low asks = refl
-  onward_met (Some a) None low asks = refl
-  onward_met (Some a) (Some by) low asks = step_onward a.0 (μ.step s by) low (asks a.0 a.1 refl)
+  onward_met : 1 ≤ j → Onward μ m leaf v s i j → arc_ok μ m leaf v s i j ≡ true
+  onward_met low asks = absent_ok (m.arc i j) refl (λ road is. step_onward road.cost (after_arc μ m s i j) low (asks road is))
 
-  home_met : (arc : Option (ℕ × ℕ)) (by : Option Move) → j ≡ 0 → AsksHome arc by → drive_ok μ leaf v s j (drive_along arc by) ≡ true
-  home_met None by home asks = refl
-  home_met (Some a) None home asks = refl
-  home_met (Some a) (Some by) home asks = step_home a.0 (μ.step s by) home (asks a.0 a.1 refl)
-
-none_picked : (b : Bool) (rest : Option ℕ) (j : ℕ) → cond b rest (Some j) ≡ None → (b ≡ true) × (rest ≡ None)
-none_picked true rest j e = (refl, e)
-none_picked false rest j e = absurd (let z : ◌≡◌ {A = ℕ} 0 1 = cc in omega arith)
-
--- no end fails
-all_pass : (ok : ℕ → Bool) (j more : ℕ) → first_refused ok j more ≡ None → (k : ℕ) → j ≤ k → k < j + more → ok k ≡ true
-all_pass ok j zero none k low high = absurd (omega arith)
-all_pass ok j (suc more) none k low high =
-    let here = none_picked (ok j) (first_refused ok (j + 1) more) j none in
-    ⊎_elim (λ same. ap ok (sym same) ∙ here.0) (λ other. all_pass ok (j + 1) more here.1 k (omega (arith, other)) (omega arith)) (cases_eq j k)
-
-pass_all : (ok : ℕ → Bool) (j more : ℕ) → ((k : ℕ) → j ≤ k → k < j + more → ok k ≡ true) → first_refused ok j more ≡ None
-pass_all ok j zero pass = refl
-pass_all ok j (suc more) pass =
-    cond-true _ _ _ (pass j (omega arith) (omega arith)) ∙ pass_all ok (j + 1) more (λ k low high. pass k (omega arith) (omega arith))
+  home_met : j ≡ 0 → ((road : Road) → m.arc i j ≡ Some road → (y : S) → after_arc μ m s i j ≡ Some y → v ≤ℤ pos (leaf.scale * road.cost)) → arc_ok μ m leaf v s i j ≡ true
+  home_met home asks = absent_ok (m.arc i j) refl (λ road is. step_home road.cost (after_arc μ m s i j) home (asks road is))
 
 unless_ok : (o : Option ℕ) (fault : ℕ → LeafFault) (next : Result (Unit {0}) LeafFault) → unless o fault next ≡ Ok tt → (o ≡ None) × (next ≡ Ok tt)
 unless_ok None fault next e = (refl, e)
@@ -110,21 +85,20 @@ unless_ok (Some j) fault next e = absurd (let z : ◌≡◌ {A = ℕ} 0 1 = cc i
 module _ {S : Type 0} (μ : Measuring S) (m : Meaning) (leaf : Leaf S) (limits : Limits m) where
   -- towards every customer, where those up to the last pass
   onward_all : (v : ℤ) (s : S) (i : ℕ) → ((j : ℕ) → 1 ≤ j → j ≤ m.customers → arc_ok μ m leaf v s i j ≡ true) → (j : ℕ) → 1 ≤ j → Onward μ m leaf v s i j
-  onward_all v s i pass j low cost travel is y steps =
-      met_onward μ leaf v s j (m.arc i j) (move m i j) low (pass j low (limits.arcs i j cost travel is).end) cost travel is y steps
+  onward_all v s i pass j low road is = met_onward μ m leaf v s i j low (pass j low (limits.arcs i j road is).end) road is
 
   entry_holds : (e : Potential S) → first_refused (arc_ok μ m leaf e.value e.corner e.place) 0 (m.customers + 1) ≡ None → EntryHolds μ m leaf e
   entry_holds e none =
       let pass = all_pass (arc_ok μ m leaf e.value e.corner e.place) 0 (m.customers + 1) none in
-      (met_home μ leaf e.value e.corner 0 (m.arc e.place 0) (move m e.place 0) refl (pass 0 (omega arith) (omega arith)), onward_all e.value e.corner e.place (λ j low high. pass j (omega arith) (omega arith)))
+      (met_home μ m leaf e.value e.corner e.place 0 refl (pass 0 (omega arith) (omega arith)), onward_all e.value e.corner e.place (λ j low high. pass j (omega arith) (omega arith)))
 
   entry_passes : (e : Potential S) → EntryHolds μ m leaf e → first_refused (arc_ok μ m leaf e.value e.corner e.place) 0 (m.customers + 1) ≡ None
   entry_passes e holds =
-      pass_all (arc_ok μ m leaf e.value e.corner e.place) 0 (m.customers + 1) (λ k low high. ⊎_elim (λ home. home_at k home) (λ onward. onward_met μ leaf e.value e.corner k (m.arc e.place k) (move m e.place k) (omega (arith, onward)) (holds.1 k (omega (arith, onward)))) (cases_eq k 0))
+      pass_all (arc_ok μ m leaf e.value e.corner e.place) 0 (m.customers + 1) (λ k low high. ⊎_elim (λ home. home_at k home) (λ onward. onward_met μ m leaf e.value e.corner e.place k (omega (arith, onward)) (holds.1 k (omega (arith, onward)))) (cases_eq k 0))
     where
       home_at : (k : ℕ) → k ≡ 0 → arc_ok μ m leaf e.value e.corner e.place k ≡ true
       home_at k home =
-          ap (arc_ok μ m leaf e.value e.corner e.place) home ∙ home_met μ leaf e.value e.corner 0 (m.arc e.place 0) (move m e.place 0) refl holds.0
+          ap (arc_ok μ m leaf e.value e.corner e.place) home ∙ home_met μ m leaf e.value e.corner e.place 0 refl holds.0
 
   entries_hold : (at size : ℕ) (es : List (Potential S)) → entries_answer μ m leaf at size es ≡ Ok tt → AllByRecursion (EntryHolds μ m leaf) es
   entries_hold at size [] e = tt
@@ -146,7 +120,7 @@ module _ {S : Type 0} (μ : Measuring S) (m : Meaning) (leaf : Leaf S) (limits :
   depot_passes None holds = refl
   depot_passes (Some p) holds =
       let s = μ.start p.opening in
-      ap (λ o. unless o Depot (Ok tt)) (pass_all (arc_ok μ m leaf leaf.van_price s 0) 1 m.customers (λ k low high. onward_met μ leaf leaf.van_price s k (m.arc 0 k) (move m 0 k) low (holds p refl k low)))
+      ap (λ o. unless o Depot (Ok tt)) (pass_all (arc_ok μ m leaf leaf.van_price s 0) 1 m.customers (λ k low high. onward_met μ m leaf leaf.van_price s 0 k low (holds p refl k low)))
 
   bound_test : (b : Bool) (f : LeafFault) → ◌≡◌ {A = Result (Unit {0}) LeafFault} (cond b (Ok tt) (Err f)) (Ok tt) → b ≡ true
   bound_test true f e = refl
@@ -168,14 +142,14 @@ module _ {S : Type 0} (μ : Measuring S) (m : Meaning) (leaf : Leaf S) (limits :
       ∙ ap (λ r. after r λ _. bound_answer m leaf z) (depot_passes (m.place 0) holds.depot)
       ∙ cond-true _ _ _ (test_from_lt _ (bound m leaf) holds.bounds)
 
-pub judged : {S : Type 0} (μ : Measuring S) (m : Meaning) (bytes : List ℕ) (z : ℕ) → Laws μ → Limits m → Judges μ m bytes z (leaf_answer μ m bytes z)
-judged {S} μ m bytes z laws limits = record {
-  granted_holds = λ e. found e;
-  holds_granted = λ leaf reads holds. ap (λ r. after r λ l. rule_answer μ m l z) (reads_to μ m.customers bytes leaf reads) ∙ rule_passes μ m leaf limits z holds;
+pub judged : {S : Type 0} (μ : Measuring S) (m : Meaning) (bytes : List ℕ) (z : ℕ) → Laws μ → Limits m → (r : Result (Unit {0}) LeafFault) → r ≡ leaf_answer μ m bytes z → Judges μ m bytes z r
+judged {S} μ m bytes z laws limits r is = record {
+  granted_holds = found;
+  holds_granted = λ leaf reads holds. is ∙ ap (λ r. after r λ l. rule_answer μ m l z) (reads_to μ m.customers bytes leaf reads) ∙ rule_passes μ m leaf limits z holds;
   granted_bounds = λ e. let it = found e in leaf_bounds μ m it.0 z laws limits it.1.duals_long it.1.scale_small.0 it.2;
 }
   where
-    found : leaf_answer μ m bytes z ≡ Ok tt → (leaf : Leaf S) × Reads μ m.customers bytes leaf × Holds μ m leaf z
+    found : r ≡ Ok tt → (leaf : Leaf S) × Reads μ m.customers bytes leaf × Holds μ m leaf z
     found e =
-        let read = after_ok (read_leaf μ m.customers bytes) _ tt e in
+        let read = after_ok (read_leaf μ m.customers bytes) _ tt (sym is ∙ e) in
         (read.0, reads_from μ m.customers bytes read.0 read.1, rule_holds μ m read.0 limits z read.2)

@@ -2,10 +2,11 @@ pub mod AlongRoute
 pub mod Allowed
 pub mod Best
 pub mod Bounds
+pub mod Bytes
 pub mod Decoding
+pub mod Firsts
 pub mod Granted
 pub mod Ordered
-pub mod Products
 pub mod Reading
 pub mod Rows
 pub mod Saying

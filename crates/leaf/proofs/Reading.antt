@@ -8,10 +8,6 @@ use Rattle.leaf.specs.Fields.{after, read_each}
 abbrev with_front : {X : Type 0} → List X → Result (List X) LeafFault → Result (List X) LeafFault
 with_front front r = after r λ xs. Ok (front ++ xs)
 
-front_none : {X : Type 0} (r : Result (List X) LeafFault) → with_front [] r ≡ r
-front_none (Ok xs) = refl
-front_none (Err f) = refl
-
 front_more : {X : Type 0} (front : List X) (x : X) (r : Result (List X) LeafFault) → with_front front (after r λ xs. Ok (x ∷ xs)) ≡ with_front (front ++ (x ∷ [])) r
 front_more front x (Ok xs) = ap Ok (sym (append_assoc front (x ∷ []) xs))
 front_more front x (Err f) = refl
@@ -20,12 +16,6 @@ module _ {X : Type 0} (read : ℕ → Result X LeafFault) (at size n : ℕ) wher
   -- the first k are stored, and what is left gives the whole
   abbrev pub ReadSoFar : ℕ → List X → Type 0
   ReadSoFar k xs = with_front (take k xs) (read_each read (at + size * k) size (n - k)) ≡ read_each read at size n
-
-  pub read_none : (xs : List X) → ReadSoFar 0 xs
-  read_none xs =
-      let here : at + size * 0 ≡ at = omega arith in
-      let all : n - 0 ≡ n = omega arith in
-      front_none _ ∙ ap (λ i. read_each read i size (n - 0)) here ∙ ap (read_each read at size) all
 
   step : (k : ℕ) → k < n → read_each read (at + size * k) size (n - k) ≡ after (read (at + size * k)) (λ x. after (read_each read (at + size * (k + 1)) size (n - (k + 1))) λ xs. Ok (x ∷ xs))
   step k lt =

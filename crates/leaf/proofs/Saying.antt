@@ -2,12 +2,10 @@
 use Rattle.std.proofs.Common.{◌≡◌, ℕ, zero, suc, ◌+◌, ◌*◌, ◌<◌, ◌≤◌, Bool, true, false, cond, List, [], ◌∷◌, length, get_or, ℤ, pos, nat_abs, Some, None, Ok, Err, Option, Result, sym, refl, ap, ◌∙◌, subst, arith}
 use Rattle.std.proofs.lemmas.List.{get_or_default}
 use Rattle.std.proofs.lemmas.Bool.{cond-true, cond-false, ltb-false, le-ltb, eq-eqb, eqb-true, and_from, and_parts, or_from, or_parts}
-use Rattle.std.specs.List.{AllByRecursion}
 use Rattle.measures.specs.Measure.{Measuring}
 use Rattle.leaf.specs.declared.faults.LeafFault.{LeafFault}
 use Rattle.leaf.specs.declared.potentials.Potential.{Potential}
 use Rattle.leaf.specs.Fields.{after, ranged, read_scale, read_amount, read_place, read_corner, read_entry, read_each, read_fields, read_leaf, well_sized}
-use Rattle.leaf.specs.Held.{Small}
 use Rattle.leaf.specs.Record.{little, amount, words, entries_at, entry_size, entry_count, EntryReads, Reads}
 use Rattle.leaf.specs.Rule.{Leaf}
 
@@ -80,14 +78,6 @@ module _ {S : Type 0} (μ : Measuring S) (n : ℕ) (bytes : List ℕ) where
 
 -- fields of one kind, one after another
 module _ {X : Type 0} (read : ℕ → Result X LeafFault) (size : ℕ) where
-  pub each_all : (P : X → Type 0) → ((at : ℕ) (x : X) → read at ≡ Ok x → P x) → (at n : ℕ) (xs : List X) → read_each read at size n ≡ Ok xs → AllByRecursion P xs
-  each_all P each at zero xs e = let none : [] ≡ xs = cc in subst (AllByRecursion P) none tt
-  each_all P each at (suc n) xs e =
-      let x = after_ok (read at) _ xs e in
-      let rest = after_ok (read_each read (at + size) size n) _ xs x.2 in
-      let whole : (x.0 ∷ rest.0) ≡ xs = cc in
-      subst (AllByRecursion P) whole (each at x.0 x.1, each_all P each (at + size) n rest.0 rest.1)
-
   pub each_long : (at n : ℕ) (xs : List X) → read_each read at size n ≡ Ok xs → length xs ≡ n
   each_long at zero xs e = let none : [] ≡ xs = cc in ap length (sym none)
   each_long at (suc n) xs e =
@@ -128,30 +118,9 @@ some_sized : {X : Type 0} (b : Bool) (r : Result X LeafFault) (f : LeafFault) (x
 some_sized true r f x e = (refl, e)
 some_sized false r f x e = absurd (let z : ◌≡◌ {A = ℕ} 0 1 = cc in omega arith)
 
--- the leaf, from its fields
-pub fields_read : {S : Type 0} (μ : Measuring S) (n : ℕ) (bytes : List ℕ) (s : ℕ) (p : ℤ) (ds : List ℤ) (es : List (Potential S)) → read_scale bytes 1 ≡ Ok s → read_amount 1000000000000000 bytes 3 ≡ Ok p → read_each (read_amount 1000000000000 bytes) 11 8 n ≡ Ok ds → read_each (read_entry μ n bytes) (entries_at n) (entry_size μ.words) (entry_count n bytes) ≡ Ok es → read_fields μ n bytes ≡ Ok (record { scale = s; van_price = p; duals = ds; entries = es })
-fields_read μ n bytes s p ds es scale price duals entries =
-    ap (λ q. after q λ scale. after (read_amount 1000000000000000 bytes 3) λ price. after (read_each (read_amount 1000000000000 bytes) 11 8 n) λ duals. after (read_each (read_entry μ n bytes) (entries_at n) (entry_size μ.words) (entry_count n bytes)) λ entries. Ok (record { scale = scale; van_price = price; duals = duals; entries = entries })) scale
-    ∙ ap (λ q. after q λ price. after (read_each (read_amount 1000000000000 bytes) 11 8 n) λ duals. after (read_each (read_entry μ n bytes) (entries_at n) (entry_size μ.words) (entry_count n bytes)) λ entries. Ok (record { scale = s; van_price = price; duals = duals; entries = entries })) price
-    ∙ ap (λ q. after q λ duals. after (read_each (read_entry μ n bytes) (entries_at n) (entry_size μ.words) (entry_count n bytes)) λ entries. Ok (record { scale = s; van_price = p; duals = duals; entries = entries })) duals
-    ∙ ap (λ q. after q λ entries. Ok (record { scale = s; van_price = p; duals = ds; entries = entries })) entries
-
--- the first fault, where only the entries have one
-pub fields_broken : {S : Type 0} (μ : Measuring S) (n : ℕ) (bytes : List ℕ) (s : ℕ) (p : ℤ) (ds : List ℤ) (f : LeafFault) → read_scale bytes 1 ≡ Ok s → read_amount 1000000000000000 bytes 3 ≡ Ok p → read_each (read_amount 1000000000000 bytes) 11 8 n ≡ Ok ds → read_each (read_entry μ n bytes) (entries_at n) (entry_size μ.words) (entry_count n bytes) ≡ Err f → read_fields μ n bytes ≡ Err f
-fields_broken μ n bytes s p ds f scale price duals entries =
-    ap (λ q. after q λ scale. after (read_amount 1000000000000000 bytes 3) λ price. after (read_each (read_amount 1000000000000 bytes) 11 8 n) λ duals. after (read_each (read_entry μ n bytes) (entries_at n) (entry_size μ.words) (entry_count n bytes)) λ entries. Ok (record { scale = scale; van_price = price; duals = duals; entries = entries })) scale
-    ∙ ap (λ q. after q λ price. after (read_each (read_amount 1000000000000 bytes) 11 8 n) λ duals. after (read_each (read_entry μ n bytes) (entries_at n) (entry_size μ.words) (entry_count n bytes)) λ entries. Ok (record { scale = s; van_price = price; duals = duals; entries = entries })) price
-    ∙ ap (λ q. after q λ duals. after (read_each (read_entry μ n bytes) (entries_at n) (entry_size μ.words) (entry_count n bytes)) λ entries. Ok (record { scale = s; van_price = p; duals = duals; entries = entries })) duals
-    ∙ ap (λ q. after q λ entries. Ok (record { scale = s; van_price = p; duals = ds; entries = entries })) entries
-
--- its numbers are small
-pub fields_small : {S : Type 0} (μ : Measuring S) (n k : ℕ) (bytes : List ℕ) (s : ℕ) (p : ℤ) (ds : List ℤ) (es : List (Potential S)) (at size count : ℕ) → read_scale bytes 1 ≡ Ok s → read_amount 1000000000000000 bytes 3 ≡ Ok p → read_each (read_amount 1000000000000 bytes) 11 8 k ≡ Ok ds → read_each (read_entry μ n bytes) at size count ≡ Ok es → Small (record { scale = s; van_price = p; duals = ds; entries = es })
-fields_small μ n k bytes s p ds es at size count scale price duals entries = record {
-  scale = (scale_ok bytes 1 s scale).1.1;
-  price = (amount_ok 1000000000000000 bytes 3 p price).1;
-  duals = each_all (read_amount 1000000000000 bytes) 8 (λ d. nat_abs d ≤ 1000000000000) (λ i d is. (amount_ok 1000000000000 bytes i d is).1) 11 k ds duals;
-  entries = each_all (read_entry μ n bytes) size (λ e. nat_abs e.value ≤ 1000000000000000) (λ i e is. (entry_ok μ n bytes i e is).value_small) at count es entries;
-}
+-- the leaf, from its fields, or the first fault of its entries
+pub fields_are : {S : Type 0} (μ : Measuring S) (n : ℕ) (bytes : List ℕ) (s : ℕ) (p : ℤ) (ds : List ℤ) (es : Result (List (Potential S)) LeafFault) → read_scale bytes 1 ≡ Ok s → read_amount 1000000000000000 bytes 3 ≡ Ok p → read_each (read_amount 1000000000000 bytes) 11 8 n ≡ Ok ds → read_each (read_entry μ n bytes) (entries_at n) (entry_size μ.words) (entry_count n bytes) ≡ es → read_fields μ n bytes ≡ after es λ entries. Ok (record { scale = s; van_price = p; duals = ds; entries = entries })
+fields_are μ n bytes s p ds es scale price duals entries = simp (scale, price, duals, entries)
 
 module _ {S : Type 0} (μ : Measuring S) (n : ℕ) (bytes : List ℕ) (leaf : Leaf S) where
   pub reads_from : read_leaf μ n bytes ≡ Ok leaf → Reads μ n bytes leaf
@@ -187,7 +156,7 @@ module _ {S : Type 0} (μ : Measuring S) (n : ℕ) (bytes : List ℕ) (leaf : Le
       let price = amount_from 1000000000000000 bytes 3 leaf.van_price r.price_is r.price_small in
       let duals = each_from (read_amount 1000000000000 bytes) 8 11 n leaf.duals r.duals_long (λ k d lt. amount_from 1000000000000 bytes (11 + 8 * k) (get_or leaf.duals k d) (dual_default k d lt ∙ r.duals_are k lt) (subst (λ z. nat_abs z ≤ 1000000000000) (sym (dual_default k d lt)) (r.duals_small k lt))) in
       let entries = each_from (read_entry μ n bytes) (entry_size μ.words) (entries_at n) (entry_count n bytes) leaf.entries r.entries_long (λ k d lt. entry_from μ n bytes _ (get_or leaf.entries k d) (r.entries_are k d lt)) in
-      cond-true _ _ _ sized ∙ fields_read μ n bytes leaf.scale leaf.van_price leaf.duals leaf.entries scale price duals entries
+      cond-true _ _ _ sized ∙ fields_are μ n bytes leaf.scale leaf.van_price leaf.duals (Ok leaf.entries) scale price duals entries
     where
       dual_default : (k : ℕ) (d : ℤ) → k < n → get_or leaf.duals k d ≡ get_or leaf.duals k (pos 0)
       dual_default k d lt = get_or_default leaf.duals k d (pos 0) (omega (arith, r.duals_long))

@@ -1,93 +1,121 @@
 -- What a look-up among the sorted entries comes to: the best of all the entries.
-use Rattle.std.proofs.Common.{◌≡◌, ℕ, suc, ◌-◌, ◌<◌, ◌≤◌, false, List, map, length, get_or, ℤ, pos, ◌≤ℤ◌, Some, None, Option, sym, refl, ap, ◌∙◌, subst, ⊎_elim, arith}
-use Rattle.std.proofs.ByRecursion.{all_has_itself, has_get_or, has_shuffled}
+use Rattle.std.proofs.Common.{◌≡◌, ℕ, ◌+◌, ◌-◌, ◌<◌, ◌≤◌, true, false, List, map, length, get_or, take, drop, reverse, ℤ, ◌≤ℤ◌, nat_abs, Some, None, Option, Bor, sym, refl, ap, ◌∙◌, subst, ⊎_elim, arith, length-take-le, length-drop}
+use Rattle.std.proofs.ByRecursion.{All-map, all_shuffled}
 use Rattle.std.proofs.lemmas.Int.{ints}
-use Rattle.std.proofs.lemmas.List.Sorted.{IsPermutation-sym}
-use Rattle.std.proofs.lemmas.List.{get_or_default, get_or-map, length-map}
-use Rattle.std.proofs.lemmas.Bool.{cases_lt, cases_eq, both_ways}
-use Rattle.std.specs.List.{ContainsAt as Has}
+use Rattle.std.proofs.Math.Logic.{∥∥₁_elim}
+use Rattle.std.proofs.Props.{props}
+use Rattle.std.specs.Coded.{×_prop, le_prop}
+use Rattle.std.proofs.lemmas.List.Sorted.{IsPermutation-sym, All-permutation}
+use Rattle.std.proofs.lemmas.List.Elements.{recursion_from_All, All-from_recursion, All-take, All-drop}
+use Rattle.std.proofs.lemmas.Map.Views.{All-map-IsPermutation}
+use Rattle.std.proofs.lemmas.List.{get_or-map, get_or-reverse, get_or-take, get_or-drop, get_or_default, length-map, length-reverse}
+use Rattle.std.proofs.lemmas.Bool.{cases_lt, both_ways}
+use Rattle.std.specs.List.{All, AllByRecursion, AllWithin, HoldsAt}
 use Rattle.std.specs.List.Sorted.{IsPermutation}
+use Rattle.std.specs.Option.{MatchOption, IfSome, option_map}
 use Rattle.measures.specs.Measure.{Measuring}
 use Rattle.leaf.specs.declared.potentials.Potential.{Potential}
-use Rattle.leaf.specs.Held.{Rising, decoded}
+use Rattle.leaf.specs.Stored.{Rising, EndsAt, Legible, decoded}
 use Rattle.leaf.specs.Rule.{best}
-use Rattle.leaf.proofs.Best.{Counts, best_reached, best_bounds_each}
-
-abbrev pub blank : Potential ℕ
-blank = record { place = 0; value = pos 0; corner = 0 }
+use Rattle.leaf.proofs.Ordered.{ends_rise}
+use Rattle.leaf.proofs.Best.{Counts, Bounded, best_reached, best_bounds}
 
 same_order : (v w : ℤ) → v ≤ℤ w → w ≤ℤ v → w ≡ v
 same_order v w le ge = omega (arith, ints)
 
-module _ {S : Type 0} (μ : Measuring S) (j : ℕ) (y : S) where
-  -- an entry that counts and that no other that counts is above
-  best_is : (es : List (Potential S)) (e : Potential S) → Has es e → Counts μ j y e → ((x : Potential S) → Has es x → Counts μ j y x → x.value ≤ℤ e.value) → best μ es j y ≡ Some e.value
-  best_is es e has counts most =
-      let b = best_bounds_each μ j y es e has counts in
-      let top = best_reached μ j y (Has es) es b.top (all_has_itself es) b.is in
-      let le : b.top ≤ℤ e.value = subst (λ v. v ≤ℤ e.value) top.3 (most top.0 top.1 top.2) in
-      b.is ∙ ap Some (same_order e.value b.top b.above le)
+-- of each of the sorted, and so of each of a part of them
+sorted_legible : {S : Type 0} (μ : Measuring S) (bytes : List ℕ) (entries sorted : List (Potential ℕ)) → ∥ IsPermutation entries sorted ∥₁ → All (Legible μ bytes) entries → All (Legible μ bytes) sorted
+sorted_legible μ bytes entries sorted same all = λ k d lt. ∥∥₁_elim same (×_prop le_prop (search props)) (λ p. All-permutation (Legible μ bytes) entries sorted p all k d lt)
 
-  none_counts : (es : List (Potential S)) → ((x : Potential S) → Has es x → Counts μ j y x → ⊥) → (o : Option ℤ) → best μ es j y ≡ o → best μ es j y ≡ None
-  none_counts es none None is = is
-  none_counts es none (Some h) is = let top = best_reached μ j y (Has es) es h (all_has_itself es) is in absurd (none top.0 top.1 top.2)
+pub part_legible : {S : Type 0} (μ : Measuring S) (bytes : List ℕ) (entries sorted : List (Potential ℕ)) (n a : ℕ) → ∥ IsPermutation entries sorted ∥₁ → All (Legible μ bytes) entries → All (Legible μ bytes) (reverse (take n (drop a sorted)))
+part_legible μ bytes entries sorted n a same all k d lt =
+    let xs = take n (drop a sorted) in
+    let part = All-take (Legible μ bytes) n (drop a sorted) (All-drop (Legible μ bytes) a sorted (sorted_legible μ bytes entries sorted same all)) in
+    let low : k < length xs = omega (arith, length-reverse xs) in
+    subst (Legible μ bytes) (sym (get_or-reverse xs k d low)) (part (length xs - 1 - k) d (omega arith))
 
-  module _ (bytes : List ℕ) (entries sorted : List (Potential ℕ)) (same : IsPermutation entries sorted) (rising : Rising sorted) where
-    -- from index k on, none of the sorted counts
-    abbrev pub Passed : ℕ → Type 0
-    Passed k = (i : ℕ) (d : Potential ℕ) → k ≤ i → i < length sorted → Counts μ j y (decoded μ bytes (get_or sorted i d)) → ⊥
+-- the best of small values is small
+pub best_small : {S : Type 0} (μ : Measuring S) (j : ℕ) (y : S) (bytes : List ℕ) (entries : List (Potential ℕ)) (o : Option ℤ) → All (λ e. nat_abs e.value ≤ 1000000000000000) entries → best μ (map (decoded μ bytes) entries) j y ≡ o → IfSome o (λ h. nat_abs h ≤ 1000000000000000)
+best_small μ j y bytes entries None small is = tt
+best_small μ j y bytes entries (Some h) small is =
+    let top = best_reached μ j y (λ e. nat_abs e.value ≤ 1000000000000000) (map (decoded μ bytes) entries) h (All-map (λ e. nat_abs e.value ≤ 1000000000000000) (decoded μ bytes) entries (recursion_from_All _ entries small)) is in
+    subst (λ v. nat_abs v ≤ 1000000000000000) top.3 top.1
 
-    abbrev said : List (Potential S)
-    said = map (decoded μ bytes) entries
+module _ {S : Type 0} (μ : Measuring S) (j : ℕ) (y : S) (bytes : List ℕ) (entries sorted : List (Potential ℕ)) (same : IsPermutation entries sorted) where
+  abbrev said : List (Potential S)
+  said = map (decoded μ bytes) entries
 
-    -- where an entry stands among the sorted
-    stands : (x : Potential S) → Has said x → (i : ℕ) × (i < length sorted) × ((d : Potential ℕ) → decoded μ bytes (get_or sorted i d) ≡ x)
-    stands x has =
-        let lt : has.0 < length entries = subst (λ n. has.0 < n) (length-map entries (decoded μ bytes)) has.1 in
-        let e = get_or entries has.0 blank in
-        let at = has_shuffled entries sorted e same (has_get_or entries has.0 blank lt) in
-        (at.0, at.1, λ d. ap (decoded μ bytes) (at.2 d) ∙ sym (get_or-map (decoded μ bytes) entries has.0 blank x lt) ∙ has.2 x)
+  -- a stored entry that counts at the place and the state
+  abbrev Here : Potential ℕ → Type 0
+  Here e = Counts μ j y (decoded μ bytes e)
 
-    -- what stands among the sorted is an entry
-    is_said : (k : ℕ) (d : Potential ℕ) → k < length sorted → Has said (decoded μ bytes (get_or sorted k d))
-    is_said k d lt =
-        let at = has_shuffled sorted entries (get_or sorted k d) (IsPermutation-sym entries sorted same) (has_get_or sorted k d lt) in
-        (at.0, subst (λ n. at.0 < n) (sym (length-map entries (decoded μ bytes))) at.1, λ x. get_or-map (decoded μ bytes) entries at.0 d x at.1 ∙ ap (decoded μ bytes) (at.2 d))
+  -- what holds of what is sorted holds of what is said
+  of_said : (P : Potential S → Type 0) → AllByRecursion (λ e. P (decoded μ bytes e)) sorted → AllByRecursion P said
+  of_said P all = All-map P (decoded μ bytes) entries (all_shuffled (λ e. P (decoded μ bytes e)) sorted entries (IsPermutation-sym entries sorted same) all)
 
-    pub look_none : (k : ℕ) → k ≡ 0 → Passed k → best μ said j y ≡ None
-    look_none k start passed =
-        none_counts said (λ x has c. let at = stands x has in passed at.0 blank (omega arith) at.1 (subst (Counts μ j y) (sym (at.2 blank)) c)) _ refl
+  none_counts : (o : Option ℤ) → AllByRecursion (λ e. Counts μ j y e → ⊥) said → best μ said j y ≡ o → best μ said j y ≡ None
+  none_counts None none is = is
+  none_counts (Some h) none is = let top = best_reached μ j y _ said h none is in absurd (top.1 top.2)
 
-    -- the entry at k counts
-    pub look_found : (k : ℕ) (d : Potential ℕ) → k < length sorted → Passed (suc k) → Counts μ j y (decoded μ bytes (get_or sorted k d)) → best μ said j y ≡ Some (get_or sorted k d).value
-    look_found k d lt passed counts =
-        let e = decoded μ bytes (get_or sorted k d) in
-        best_is said e (is_said k d lt) counts
-        (λ x has c.
-        let at = stands x has in
-        let here = subst (Counts μ j y) (sym (at.2 d)) c in
-        ⊎_elim (λ far. absurd (passed at.0 d far at.1 here))
-        (λ near. subst (λ z. z.value ≤ℤ e.value) (at.2 d) (rising.values at.0 k d (omega arith) lt (here.at ∙ sym counts.at)))
-        (cases_lt k at.0))
+  look_none : All (λ e. Here e → ⊥) sorted → best μ said j y ≡ None
+  look_none none = none_counts _ (of_said (λ e. Counts μ j y e → ⊥) (recursion_from_All _ sorted none)) refl
 
-    -- the entry at k stands below the place, and so do all before it
-    pub look_below : (k : ℕ) (d : Potential ℕ) → k < length sorted → Passed (suc k) → (get_or sorted k d).place < j → best μ said j y ≡ None
-    look_below k d lt passed below =
-        none_counts said
-        (λ x has c.
-        let at = stands x has in
-        let here = subst (Counts μ j y) (sym (at.2 d)) c in
-        ⊎_elim (λ far. passed at.0 d far at.1 here)
-        (λ near. omega (arith, rising.places at.0 k d (omega arith) lt, here.at))
-        (cases_lt k at.0))
-        _ refl
+  -- the entry at k counts, and no other that counts is above it
+  look_found : (k : ℕ) (d : Potential ℕ) → k < length sorted → Here (get_or sorted k d) → All (λ e. Here e → e.value ≤ℤ (get_or sorted k d).value) sorted → best μ said j y ≡ Some (get_or sorted k d).value
+  look_found k d lt here most =
+      let v = (get_or sorted k d).value in
+      let all = All-map-IsPermutation (decoded μ bytes) (λ e. Counts μ j y e → Bounded (best μ said j y) e.value) entries sorted same (All-from_recursion _ said (best_bounds μ j y said)) in
+      let b = subst (λ e. Counts μ j y e → Bounded (best μ said j y) e.value) (get_or-map (decoded μ bytes) sorted k d (decoded μ bytes d) lt) (all k (decoded μ bytes d) (omega (arith, length-map sorted (decoded μ bytes)))) here in
+      let top = best_reached μ j y (λ e. Counts μ j y e → e.value ≤ℤ v) said b.top (of_said (λ e. Counts μ j y e → e.value ≤ℤ v) (recursion_from_All _ sorted most)) b.is in
+      let le : b.top ≤ℤ v = subst (λ w. w ≤ℤ v) top.3 (top.1 top.2) in
+      b.is ∙ ap Some (same_order v b.top b.above le)
 
-    -- the entry before k does not count
-    pub passed_more : (k : ℕ) (e : Potential ℕ) → 0 < k → k ≤ length sorted → μ.at_most (decoded μ bytes (get_or sorted (k - 1) e)).corner y ≡ false → Passed k → Passed (k - 1)
-    passed_more k e some le failed passed i d low lt counts =
+  -- the entries at the place are those from a to b
+  module _ (a b : ℕ) (some : 1 ≤ j) (rising : Rising sorted) (start : EndsAt sorted (j - 1) a) (end : EndsAt sorted j b) where
+    abbrev found : List (Potential ℕ)
+    found = take (b - a) (drop a sorted)
+
+    abbrev Fails : Potential ℕ → Type 0
+    Fails e = μ.at_most (decoded μ bytes e).corner y ≡ false
+
+    rises : a ≤ b
+    rises = ends_rise sorted (j - 1) j a b (omega arith) start end
+
+    found_long : length (reverse found) ≡ b - a
+    found_long = length-reverse found ∙ length-take-le (b - a) (drop a sorted) (omega (arith, length-drop a sorted, end.within, rises))
+
+    found_at : (k : ℕ) (d : Potential ℕ) → a ≤ k → k < b → get_or (reverse found) (b - 1 - k) d ≡ get_or sorted k d
+    found_at k d low high =
+        let long = sym (length-reverse found) ∙ found_long in
+        let i : length found - 1 - (b - 1 - k) ≡ k - a = omega arith in
+        let place : a + (k - a) ≡ k = omega arith in
+        get_or-reverse found (b - 1 - k) d (omega (arith, long)) ∙ ap (λ n. get_or found n d) i ∙ get_or-take (b - a) (drop a sorted) (k - a) d (omega arith) ∙ get_or-drop a sorted (k - a) d ∙ ap (λ n. get_or sorted n d) place
+
+    -- what counts stands between
+    between : (k : ℕ) (d : Potential ℕ) → k < length sorted → Here (get_or sorted k d) → (a ≤ k) × (k < b)
+    between k d lt here =
+        (⊎_elim (λ low. absurd (omega (arith, start.upto k d low, here.at))) (λ le. le) (cases_lt k a), ⊎_elim (λ low. low) (λ high. absurd (omega (arith, end.above k d high lt, here.at))) (cases_lt k b))
+
+    pub sought : (r : Option (Bor (Potential ℕ))) → MatchOption r (AllWithin Fails (reverse found) 0 (length (reverse found))) (λ x. (μ.at_most (decoded μ bytes x.now).corner y ≡ true) × (i : ℕ) × (i < length (reverse found)) × HoldsAt (λ e. e ≡ x.now) (reverse found) i × AllWithin Fails (reverse found) 0 i) → best μ said j y ≡ option_map (λ x. x.now.value) r
+    sought None fails =
+        look_none λ k d lt here.
+        let at = between k d lt here in
+        let failed = subst Fails (found_at k d at.0 at.1) (fails (b - 1 - k) d (omega arith) (omega (arith, found_long))) in
+        both_ways _ failed here.below
+    sought (Some x) (passed, i, lt, is, fails) =
+        let k = b - 1 - i in
+        let d = x.now in
+        let back : b - 1 - k ≡ i = omega (arith, found_long) in
+        let between_ends : (a ≤ k) × (k < b) = (omega (arith, found_long), omega (arith, found_long)) in
+        let e : get_or sorted k d ≡ d = sym (found_at k d between_ends.0 between_ends.1) ∙ ap (λ n. get_or (reverse found) n d) back ∙ is d in
+        let inside : k < length sorted = omega (arith, end.within, between_ends.1) in
+        let stands : (o : Potential ℕ) → (get_or sorted k o).place ≡ j = λ o. omega (arith, some, end.upto k o between_ends.1, start.above k o between_ends.0 inside) in
+        subst (λ z. best μ said j y ≡ Some z.value) e
+        (look_found k d inside
+        (record { at = stands d; below = subst (λ z. μ.at_most (decoded μ bytes z).corner y ≡ true) (sym e) passed })
+        (λ n o low here.
+        let at = between n o low here in
         ⊎_elim
-        (λ here.
-        let same_entry : get_or sorted i d ≡ get_or sorted (k - 1) e = get_or_default sorted i d e lt ∙ ap (λ n. get_or sorted n e) here in
-        both_ways _ failed (ap (λ x. μ.at_most (decoded μ bytes x).corner y) (sym same_entry) ∙ counts.below))
-        (λ apart. passed i d (omega (arith, apart)) lt counts)
-        (cases_eq i (k - 1))
+        (λ later. absurd (both_ways _ (subst Fails (found_at n o at.0 at.1) (fails (b - 1 - n) o (omega arith) (omega (arith, found_long)))) here.below))
+        (λ le. subst (λ z. (get_or sorted n o).value ≤ℤ z.value) (get_or_default sorted k o d inside) (rising.values n k o le inside (here.at ∙ sym (stands o))))
+        (cases_lt k n)))

@@ -1,7 +1,8 @@
 -- Sums of integers over lists: along appended lists, and over customers that each stand once.
-use Rattle.std.proofs.Common.{◌≡◌, ℕ, zero, suc, ◌+◌, ◌-◌, ◌≤◌, List, [], ◌∷◌, ◌++◌, length, get_or, ℤ, pos, ◌+ℤ◌, refl, ap, ◌∙◌, arith}
+use Rattle.std.proofs.Common.{◌≡◌, ℕ, zero, suc, ◌+◌, ◌-◌, ◌<◌, ◌≤◌, List, [], ◌∷◌, ◌++◌, length, drop, get_or, ℤ, pos, ◌+ℤ◌, refl, ap, ◌∙◌, arith}
 use borrow.Author.Differences.{up, down}
 use Rattle.std.proofs.lemmas.Int.{ints}
+use Rattle.std.proofs.lemmas.List.{at_drop_more}
 use Rattle.std.specs.List.{AllByRecursion}
 use Rattle.routing.specs.Routes.{count, total}
 use Rattle.routing.proofs.Counts.{upto, upto_same, total_once}
@@ -52,3 +53,7 @@ totalZ_once xs d cs all once =
     let here = totalZ_parts (λ c. get_or xs (c - 1) d) cs in
     let there = totalZ_parts (λ (x : ℤ). x) xs in
     omega (arith, ints, sumZ_is xs)
+
+-- one dual more
+pub sum_more : (xs : List ℤ) (k : ℕ) → k < length xs → sum_z (drop k xs) ≡ get_or xs k (pos 0) +ℤ sum_z (drop (k + 1) xs)
+sum_more xs k lt = at_drop_more sum_z xs k (pos 0) lt

@@ -1,9 +1,12 @@
 -- The answer due to a leaf: granted, or the first fault in the order of the rules.
-use Rattle.std.specs.Prelude.{ℕ, zero, suc, ◌+◌, ◌*◌, Bool, true, false, cond, List, [], ◌∷◌, ℤ, pos, ◌+ℤ◌, ◌-ℤ◌, ◌*ℤ◌, Some, None, Ok, Err, Option, Result, ◌==◌, int_le, int_lt}
+use Rattle.std.specs.Prelude.{ℕ, zero, suc, ◌+◌, ◌*◌, Bool, true, false, cond, List, [], ◌∷◌, map, ℤ, pos, ◌+ℤ◌, ◌-ℤ◌, ◌*ℤ◌, Some, None, Ok, Err, Option, Result, ◌==◌, int_le, int_lt}
+use Rattle.std.specs.List.{range_with_len}
 use Rattle.routing.specs.declared.cells.Place.{Place}
+use Rattle.routing.specs.declared.cells.Road.{Road}
 use Rattle.routing.specs.Network.{Meaning}
 use Rattle.measures.specs.Measure.{Measuring, move}
 use Rattle.measures.specs.declared.moves.Move.{Move}
+use Rattle.leaf.specs.declared.drives.Drive.{Drive}
 use Rattle.leaf.specs.declared.faults.LeafFault.{LeafFault}
 use Rattle.leaf.specs.declared.faults.LeafFault.TheVariants.{Entry, Depot, Bound}
 use Rattle.leaf.specs.declared.potentials.Potential.{Potential}
@@ -11,14 +14,18 @@ use Rattle.leaf.specs.Fields.{after, read_leaf}
 use Rattle.leaf.specs.Record.{entries_at, entry_size}
 use Rattle.leaf.specs.Rule.{Leaf, best, bound, dual}
 
-abbrev pub drive_along : Option (ℕ × ℕ) → Option Move → Option (ℕ × Move)
+abbrev pub drive_along : Option Road → Option Move → Option Drive
 drive_along None by = None
-drive_along (Some arc) None = None
-drive_along (Some arc) (Some by) = Some (arc.0, by)
+drive_along (Some road) None = None
+drive_along (Some road) (Some by) = Some (record { road = road; by = by })
 
--- the cost and the move of the arc from i to j, where there is one
-abbrev pub drive : Meaning → ℕ → ℕ → Option (ℕ × Move)
+-- the drive along the arc from i to j, where there is one
+abbrev pub drive : Meaning → ℕ → ℕ → Option Drive
 drive m i j = drive_along (m.arc i j) (move m i j)
+
+-- the drives from i to each place, home first
+unfoldable pub drives : Meaning → ℕ → List (Option Drive)
+drives m i = map (drive m i) (range_with_len 0 (m.customers + 1))
 
 -- a value is at most what is left; an absent potential breaks the rule
 abbrev pub potential_ok : ℤ → ℤ → Option ℤ → Bool
@@ -32,9 +39,9 @@ step_ok μ leaf v j cost (Some y) =
     cond (j == 0) (int_le v (pos (leaf.scale * cost))) (potential_ok v (pos (leaf.scale * cost) -ℤ dual leaf j) (best μ leaf.entries j y))
 
 -- an absent arc asks nothing
-abbrev pub drive_ok : {S : Type 0} → Measuring S → Leaf S → ℤ → S → ℕ → Option (ℕ × Move) → Bool
+abbrev pub drive_ok : {S : Type 0} → Measuring S → Leaf S → ℤ → S → ℕ → Option Drive → Bool
 drive_ok μ leaf v s j None = true
-drive_ok μ leaf v s j (Some d) = step_ok μ leaf v j d.0 (μ.step s d.1)
+drive_ok μ leaf v s j (Some d) = step_ok μ leaf v j d.road.cost (μ.step s d.by)
 
 -- whether a value at a state and a place keeps the rule along the arc to j
 abbrev pub arc_ok : {S : Type 0} → Measuring S → Meaning → Leaf S → ℤ → S → ℕ → ℕ → Bool

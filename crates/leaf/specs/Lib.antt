@@ -5,3 +5,4 @@ pub mod Held
 pub mod Judges
 pub mod Record
 pub mod Rule
+pub mod Stored

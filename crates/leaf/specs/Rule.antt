@@ -3,6 +3,7 @@ use Rattle.std.specs.Prelude.{◌≡◌, ℕ, ◌-◌, ◌*◌, ◌≤◌, cond,
 use Rattle.std.specs.Int.{int_max}
 use Rattle.std.specs.List.{AllByRecursion}
 use Rattle.routing.specs.declared.cells.Place.{Place}
+use Rattle.routing.specs.declared.cells.Road.{Road}
 use Rattle.routing.specs.Network.{Meaning}
 use Rattle.measures.specs.Measure.{Measuring, after_arc}
 use Rattle.leaf.specs.declared.potentials.Potential.{Potential}
@@ -30,12 +31,12 @@ best μ (e ∷ es) j y = cond (e.place == j && μ.at_most e.corner y) (Some (lar
 -- and the value is at most the scaled cost less the dual plus that potential
 abbrev pub Onward : {S : Type 0} → Measuring S → Meaning → Leaf S → ℤ → S → ℕ → ℕ → Type 0
 Onward {S} μ m leaf v s i j =
-    (cost travel : ℕ) → m.arc i j ≡ Some (cost, travel) → (y : S) → after_arc μ m s i j ≡ Some y → (h : ℤ) × (best μ leaf.entries j y ≡ Some h) × (v ≤ℤ ((pos (leaf.scale * cost) -ℤ dual leaf j) +ℤ h))
+    (road : Road) → m.arc i j ≡ Some road → (y : S) → after_arc μ m s i j ≡ Some y → (h : ℤ) × (best μ leaf.entries j y ≡ Some h) × (v ≤ℤ ((pos (leaf.scale * road.cost) -ℤ dual leaf j) +ℤ h))
 
 -- what the arc home asks
 abbrev pub Home : {S : Type 0} → Measuring S → Meaning → Leaf S → ℤ → S → ℕ → Type 0
 Home {S} μ m leaf v s i =
-    (cost travel : ℕ) → m.arc i 0 ≡ Some (cost, travel) → (y : S) → after_arc μ m s i 0 ≡ Some y → v ≤ℤ pos (leaf.scale * cost)
+    (road : Road) → m.arc i 0 ≡ Some road → (y : S) → after_arc μ m s i 0 ≡ Some y → v ≤ℤ pos (leaf.scale * road.cost)
 
 abbrev pub EntryHolds : {S : Type 0} → Measuring S → Meaning → Leaf S → Potential S → Type 0
 EntryHolds μ m leaf e =
@@ -47,7 +48,7 @@ sum_z (x ∷ xs) = x +ℤ sum_z xs
 
 -- how many vans the van price counts: the least, or the most where it is negative
 abbrev pub vans_counted : Meaning → ℤ → ℕ
-vans_counted m r = cond (int_lt r (pos 0)) m.fleet.1 m.fleet.0
+vans_counted m r = cond (int_lt r (pos 0)) m.fleet.most m.fleet.least
 
 abbrev pub bound : {S : Type 0} → Meaning → Leaf S → ℤ
 bound m leaf = sum_z leaf.duals +ℤ (leaf.van_price *ℤ pos (vans_counted m leaf.van_price))

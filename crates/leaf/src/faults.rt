@@ -18,42 +18,17 @@ pub enum LeafFault {
     Bound,
 }
 
-impl LeafFault {
-    // The number, arc and place that are handed back.
-    pub fn denial(&self) -> Denial
-        ensures { result ≡ leaf_denial self.now }
-    {
-        match *self {
-            LeafFault::Length => Denial {
-                number: 8,
-                from: 0,
-                to: 0,
-                place: 0,
-            },
-            LeafFault::Field { offset } => Denial {
-                number: 9,
-                from: 0,
-                to: 0,
-                place: offset,
-            },
-            LeafFault::Entry { from, to, offset } => Denial {
-                number: 22,
-                from,
-                to,
-                place: offset,
-            },
-            LeafFault::Depot { to } => Denial {
-                number: 23,
-                from: 0,
-                to,
-                place: 0,
-            },
-            LeafFault::Bound => Denial {
-                number: 24,
-                from: 0,
-                to: 0,
-                place: 0,
-            },
+// The number, arc and place that are handed back.
+impl From<LeafFault> for Denial {
+    ghost from_gives = { λ f r. r ≡ leaf_denial f };
+
+    fn from(fault: LeafFault) -> Denial {
+        match fault {
+            LeafFault::Length => Denial::at(8, 0),
+            LeafFault::Field { offset } => Denial::at(9, offset),
+            LeafFault::Entry { from, to, offset } => Denial::on_arc(22, from, to, offset),
+            LeafFault::Depot { to } => Denial::on_arc(23, 0, to, 0),
+            LeafFault::Bound => Denial::at(24, 0),
         }
     }
 }

@@ -1,7 +1,9 @@
-// A leaf as it was read, with its entries ordered for look-ups.
+// A leaf as it was read.
+ghost use Rattle.std.specs.Prelude.{◌≤◌, unsigned_abs};
+ghost use Rattle.std.specs.List.{All};
+
 use crate::potentials::Potential;
 
-// Each entry holds the offset of its corner in the record.
 #[derive(Clone, Copy)]
 pub struct Held<'a> {
     pub bytes: &'a [u8],
@@ -10,10 +12,10 @@ pub struct Held<'a> {
     pub price: i64,
     // A dual for each customer.
     pub duals: &'a [i64],
-    // In the record's order.
+    // In the record's order, each with the offset of its corner in the record.
     pub entries: &'a [Potential<usize>],
-    // By place, then by value.
-    pub sorted: &'a [Potential<usize>],
-    // For each place, how many of the sorted stand at it or at a lower one.
-    pub ends: &'a [usize],
+    ghost scale_small: { scale ≤ 1000 },
+    ghost price_small: { unsigned_abs price ≤ 1000000000000000 },
+    ghost duals_small: { All (λ p. unsigned_abs p ≤ 1000000000000) duals.now },
+    ghost values_small: { All (λ e. unsigned_abs e.value ≤ 1000000000000000) entries.now },
 }

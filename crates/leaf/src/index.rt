@@ -1,10 +1,31 @@
-// The order of a leaf's entries for look-ups.
-ghost use Rattle.std.specs.Prelude.{◌≡◌, ℕ, ◌<◌, ◌≤◌, length, slice_index, slice_index_or};
+// A leaf's entries in order, for look-ups.
+ghost use Rattle.std.specs.Prelude.{◌≡◌, ◌-◌, ◌≤◌, length, take, drop, slice_index};
 ghost use Rattle.std.specs.List.Sorted.{IsPermutation};
-ghost use Rattle.leaf.specs.declared.potentials.Potential.{Potential};
-ghost use Rattle.leaf.specs.Held.{Rising, EndsAt};
+ghost use Rattle.leaf.specs.Stored.{Rising, Ends};
 
 use crate::potentials::Potential;
+
+// Entries by place and then by value; and for each place, how many of them stand at it or at a lower one:
+// a look-up reads these ends, where a bisection would search.
+#[derive(Clone, Copy)]
+pub struct Index<'a> {
+    pub sorted: &'a [Potential<usize>],
+    pub ends: &'a [usize],
+    ghost rising: { Rising sorted.now },
+    ghost places: { length ends.now ≡ 61 },
+    ghost ended: { Ends sorted.now ends.now },
+}
+
+impl Index<'_> {
+    // The entries at a place, by value.
+    pub(crate) fn at(&self, place: u8) -> &[Potential<usize>]
+        requires customer { 1 ≤ place }
+        requires few { place ≤ 60 }
+        ensures { let start = slice_index self.now.ends.now (place - 1) in result.now ≡ take (slice_index self.now.ends.now place - start) (drop start self.now.sorted.now) }
+    {
+        &self.sorted[self.ends[place as usize - 1]..self.ends[place as usize]]
+    }
+}
 
 // Puts entries in order, by place and then by value.
 pub(crate) fn sort_entries<S: Copy>(entries: &mut [Potential<S>])
@@ -14,27 +35,13 @@ pub(crate) fn sort_entries<S: Copy>(entries: &mut [Potential<S>])
     entries.sort_unstable();
 }
 
-// The first index from one on, up to which all stand at a place or lower, that stands above it.
-fn end_after<S: Copy>(sorted: &[Potential<S>], from: usize, place: u8) -> usize
-    requires { (Rising sorted.now) × ((from ≤ length sorted.now) × (((i : ℕ) (d : Potential S) → i < from → (slice_index_or sorted.now i d).place ≤ place))) }
-    ensures { EndsAt sorted.now place result }
-{
-    for k in from..sorted.len() {
-        if sorted[k].place > place {
-            return k;
-        }
-    }
-    sorted.len()
-}
-
-// For each place, how many stand at it or at a lower one.
+// For each place, how many of the sorted stand at it or at a lower one.
 pub(crate) fn find_ends<S: Copy>(sorted: &[Potential<S>], ends: &mut [usize])
-    requires { (Rising sorted.now) × (length ends.old ≡ 61) }
-    ensures { (j : ℕ) → j < 61 → EndsAt sorted.now j (slice_index ends.new j) }
+    requires rising { Rising sorted.now }
+    requires places { length ends.old ≡ 61 }
+    ensures { Ends sorted.now ends.new }
 {
-    let mut end = 0;
-    for (place, slot) in ends.iter_mut().enumerate() {
-        end = end_after(sorted, end, place as u8);
-        *slot = end;
+    for (place, end) in ends.iter_mut().enumerate() {
+        *end = sorted.partition_point(|entry| entry.place as usize <= place);
     }
 }

@@ -3,6 +3,7 @@
 
 pub mod arcs;
 pub mod check;
+pub mod checker;
 pub mod drives;
 pub mod faults;
 pub mod fields;

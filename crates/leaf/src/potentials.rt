@@ -10,3 +10,12 @@ pub struct Potential<S> {
     #[derive_where(skip)]
     pub corner: S,
 }
+
+impl Potential<usize> {
+    // An entry to fill a table with.
+    pub(crate) const BLANK: Potential<usize> = Potential {
+        place: 0,
+        value: 0,
+        corner: 0,
+    };
+}

@@ -1,8 +1,9 @@
 // Reading a leaf record: its length, then field by field.
-ghost use Rattle.std.specs.Prelude.{◌≡◌, ◌+◌, ◌*◌, ◌≤◌, true, length, Ok, Err, MatchResult};
-ghost use Rattle.leaf.specs.Record.{entry_size, words};
+ghost use Rattle.std.specs.Prelude.{◌≡◌, ℕ, ◌+◌, ◌*◌, ◌^◌, ◌<◌, ◌≤◌, length, Ok, Err, Result, MatchResult};
+ghost use Rattle.leaf.specs.declared.faults.LeafFault.{LeafFault};
+ghost use Rattle.leaf.specs.Record.{entry_size, entries_at, words};
 ghost use Rattle.leaf.specs.Fields.{read_amount, read_corner, read_entry, read_each, well_sized};
-ghost use Rattle.leaf.specs.Held.{read_located};
+ghost use Rattle.leaf.specs.Stored.{read_located};
 
 use crate::faults::LeafFault;
 use crate::fields::{amount_at, place_at, short_at, words_at};
@@ -25,15 +26,29 @@ pub(crate) fn is_well_sized(words: usize, customers: u8, bytes: &[u8]) -> bool
     bytes.len() == count_at + 2 + count * (9 + 8 * words)
 }
 
-// The duals from an offset on, as many as there is room for.
-pub(crate) fn read_duals(bytes: &[u8], at: usize, room: &mut [i64]) -> Result<(), LeafFault>
-    requires { at + 8 * length room.old ≤ length bytes.now }
-    ensures { MatchResult result (λ _. read_each (read_amount 1000000000000 bytes.now) at 8 (length room.old) ≡ Ok room.new) (λ f. read_each (read_amount 1000000000000 bytes.now) at 8 (length room.old) ≡ Err f) }
+// Reads fields of one kind, as many as there is room for, each of so many bytes from an offset on.
+fn read_each<T: Copy, F: Fn(usize) -> Result<T, LeafFault>>(
+    room: &mut [T],
+    at: usize,
+    size: usize,
+    read: F,
+) -> Result<(), LeafFault>
+    requires callable { (k : ℕ) → k < length room.old → F.pre read (at + size * k) }
+    requires fits { at + size * length room.old < 2 ^ 64 }
+    ensures { (each : ℕ → Result T LeafFault) → ((i : ℕ) (r : Result T LeafFault) → i < 2 ^ 64 → F.post read i r → r ≡ each i) → MatchResult result (λ _. read_each each at size (length room.old) ≡ Ok room.new) (λ f. read_each each at size (length room.old) ≡ Err f) }
 {
-    for (k, dual) in room.iter_mut().enumerate() {
-        *dual = amount_at(bytes, at + 8 * k, 1_000_000_000_000)?;
+    for (k, slot) in room.iter_mut().enumerate() {
+        *slot = read(at + size * k)?;
     }
     Ok(())
+}
+
+// The duals, as many as there is room for.
+pub(crate) fn read_duals(bytes: &[u8], room: &mut [i64]) -> Result<(), LeafFault>
+    requires { 11 + 8 * length room.old ≤ length bytes.now }
+    ensures { MatchResult result (λ _. read_each (read_amount 1000000000000 bytes.now) 11 8 (length room.old) ≡ Ok room.new) (λ f. read_each (read_amount 1000000000000 bytes.now) 11 8 (length room.old) ≡ Err f) }
+{
+    read_each(room, 11, 8, |at| amount_at(bytes, at, 1_000_000_000_000))
 }
 
 // The corner whose words stand from an offset on, with room for so many words.
@@ -42,17 +57,15 @@ fn corner_in<M: Measure, const ROOM: usize>(
     bytes: &[u8],
     at: usize,
 ) -> Result<M::State, LeafFault>
-    requires { (at + 8 * (M.Measure.meaning measure.now).words ≤ length bytes.now) × (((M.Measure.meaning measure.now).words ≤ ROOM) × (ROOM ≤ 100)) }
-    ensures { result ≡ read_corner ((M.Measure.meaning measure.now).read (words bytes.now at (M.Measure.meaning measure.now).words)) at }
+    requires inside { at + 8 * (M.Measure.meaning measure.now).words ≤ length bytes.now }
+    requires enough { (M.Measure.meaning measure.now).words ≤ ROOM }
+    requires few { ROOM ≤ 100 }
+    ensures { let μ = M.Measure.meaning measure.now in result ≡ read_corner (μ.read (words bytes.now at μ.words)) at }
 {
     let mut room = [0; ROOM];
-    let room = &mut room[..];
-    let words = &mut room[0..measure.words()];
+    let words = &mut room[..measure.words()];
     words_at(bytes, at, words);
-    match measure.read(words) {
-        Some(corner) => Ok(corner),
-        None => Err(LeafFault::Field { offset: at }),
-    }
+    measure.read(words).ok_or(LeafFault::Field { offset: at })
 }
 
 // The corner whose words stand from an offset on: most take few words, and the room is cleared for each.
@@ -62,7 +75,7 @@ pub(crate) fn corner_at<M: Measure>(
     at: usize,
 ) -> Result<M::State, LeafFault>
     requires { at + 8 * (M.Measure.meaning measure.now).words ≤ length bytes.now }
-    ensures { result ≡ read_corner ((M.Measure.meaning measure.now).read (words bytes.now at (M.Measure.meaning measure.now).words)) at }
+    ensures { let μ = M.Measure.meaning measure.now in result ≡ read_corner (μ.read (words bytes.now at μ.words)) at }
 {
     if measure.words() <= 4 {
         corner_in::<M, 4>(measure, bytes, at)
@@ -71,25 +84,8 @@ pub(crate) fn corner_at<M: Measure>(
     }
 }
 
-// The entry at an offset.
-fn entry_at<M: Measure>(
-    measure: &M,
-    customers: u8,
-    bytes: &[u8],
-    at: usize,
-) -> Result<Potential<M::State>, LeafFault>
-    requires { at + entry_size (M.Measure.meaning measure.now).words ≤ length bytes.now }
-    ensures { result ≡ read_entry (M.Measure.meaning measure.now) customers bytes.now at }
-{
-    Ok(Potential {
-        place: place_at(bytes, at, customers)?,
-        value: amount_at(bytes, at + 1, 1_000_000_000_000_000)?,
-        corner: corner_at(measure, bytes, at + 9)?,
-    })
-}
-
 // The entry at an offset, to be stored with its corner's offset.
-fn located_at<M: Measure>(
+fn entry_at<M: Measure>(
     measure: &M,
     customers: u8,
     bytes: &[u8],
@@ -98,28 +94,28 @@ fn located_at<M: Measure>(
     requires { at + entry_size (M.Measure.meaning measure.now).words ≤ length bytes.now }
     ensures { result ≡ read_located (M.Measure.meaning measure.now) customers bytes.now at }
 {
-    let entry = entry_at(measure, customers, bytes, at)?;
+    let place = place_at(bytes, at, customers)?;
+    let value = amount_at(bytes, at + 1, 1_000_000_000_000_000)?;
+    let corner = at + 9;
+    corner_at(measure, bytes, corner)?;
     Ok(Potential {
-        place: entry.place,
-        value: entry.value,
-        corner: at + 9,
+        place,
+        value,
+        corner,
     })
 }
 
-// The entries from an offset on, as many as there is room for.
+// The entries, as many as there is room for.
 pub(crate) fn read_entries<M: Measure>(
     measure: &M,
     customers: u8,
     bytes: &[u8],
-    at: usize,
     room: &mut [Potential<usize>],
 ) -> Result<(), LeafFault>
-    requires { at + length room.old * entry_size (M.Measure.meaning measure.now).words ≤ length bytes.now }
-    ensures { MatchResult result (λ _. read_each (read_located (M.Measure.meaning measure.now) customers bytes.now) at (entry_size (M.Measure.meaning measure.now).words) (length room.old) ≡ Ok room.new) (λ f. read_each (read_located (M.Measure.meaning measure.now) customers bytes.now) at (entry_size (M.Measure.meaning measure.now).words) (length room.old) ≡ Err f) }
+    requires { entries_at customers + entry_size (M.Measure.meaning measure.now).words * length room.old ≤ length bytes.now }
+    ensures { let μ = M.Measure.meaning measure.now in MatchResult result (λ _. read_each (read_located μ customers bytes.now) (entries_at customers) (entry_size μ.words) (length room.old) ≡ Ok room.new) (λ f. read_each (read_located μ customers bytes.now) (entries_at customers) (entry_size μ.words) (length room.old) ≡ Err f) }
 {
+    let at = 13 + 8 * customers as usize;
     let size = 9 + 8 * measure.words();
-    for (k, entry) in room.iter_mut().enumerate() {
-        *entry = located_at(measure, customers, bytes, at + size * k)?;
-    }
-    Ok(())
+    read_each(room, at, size, |at| entry_at(measure, customers, bytes, at))
 }

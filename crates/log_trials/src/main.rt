@@ -5,7 +5,8 @@ use checking::calls::{Answer, Call, Grant, Standing};
 use checking::faults::CheckFault;
 use checking::running::run_log;
 use measures::load::Load;
-use routing::cells::{Head, Place, Road};
+use routing::cells::{Fleet, Head, Place, Road};
+use routing::denials::Denial;
 use routing::tables::TableNetwork;
 use std::io;
 
@@ -23,6 +24,7 @@ fn road(length: u8) -> Option<Road> {
     })
 }
 
+// Printed by hand: the types are another crate's, and their words here are this program's alone.
 fn show(rt: &HostRuntime, answer: Answer) -> io::Result<()> {
     match answer {
         Ok(Grant::Presented(priced)) => {
@@ -35,7 +37,7 @@ fn show(rt: &HostRuntime, answer: Answer) -> io::Result<()> {
         Ok(Grant::Stands(Standing::Proved { cost })) => println!(rt; "proved {cost}"),
         Ok(Grant::Stands(Standing::Open { decisions })) => println!(rt; "open {decisions}"),
         Err(fault) => {
-            let denial = fault.denial();
+            let denial = Denial::from(fault);
             let number = denial.number;
             let from = denial.from;
             let to = denial.to;
@@ -83,18 +85,15 @@ fn show_log(rt: &HostRuntime, name: &str, opening: u8, calls: &[Call<'_>]) -> io
     let head = Head {
         customers: 2,
         capacity: 10,
-        least: 0,
-        most: 2,
+        fleet: Fleet { least: 0, most: 2 },
     };
     let Some(network) = TableNetwork::new(head, &places, &arcs) else {
         return Ok(());
     };
     let mut answers: [Answer; 20] = [Err(CheckFault::NoPlan); 20];
     let _ = run_log(network, &Load, calls, &mut answers);
-    for (k, answer) in answers.iter().enumerate() {
-        if k < calls.len() {
-            show(rt, *answer)?;
-        }
+    for answer in answers.iter().take(calls.len()) {
+        show(rt, *answer)?;
     }
     Ok(())
 }

@@ -25,7 +25,7 @@ within_let most n y e = let p = picked (nat_lt most n) n y e in record { is = p.
 
 -- the move of a drive
 abbrev pub drive_move : (m : Meaning) (i j : ℕ) → Drive m i j → Move
-drive_move m i j d = move_along m i j d.left d.reached (d.cost, d.travel)
+drive_move m i j d = move_along m i j d.left d.reached d.road
 
 pub drive_is : (m : Meaning) (i j : ℕ) (d : Drive m i j) → move m i j ≡ Some (drive_move m i j d)
 drive_is m i j d = simp (d.left_is, d.reached_is, d.arc_is)

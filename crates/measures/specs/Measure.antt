@@ -1,6 +1,7 @@
 -- What a measure means, and the four laws that every measure keeps.
 use Rattle.std.specs.Prelude.{◌≡◌, ℕ, ◌≤◌, Bool, true, cond, List, [], ◌∷◌, Some, None, Option, ◌==◌}
 use Rattle.routing.specs.declared.cells.Place.{Place}
+use Rattle.routing.specs.declared.cells.Road.{Road}
 use Rattle.routing.specs.Network.{Meaning, Limits}
 use Rattle.routing.specs.Routes.{Drivable}
 use Rattle.measures.specs.declared.moves.Move.{Move}
@@ -18,19 +19,19 @@ pub record Measuring (S : Type 0) : Type 0 where
 abbrev pub service_left : ℕ → Place → ℕ
 service_left i p = cond (i == 0) 0 p.service
 
-abbrev pub move_along : Meaning → ℕ → ℕ → Place → Place → ℕ × ℕ → Move
-move_along m i j left reached arc = record {
+abbrev pub move_along : Meaning → ℕ → ℕ → Place → Place → Road → Move
+move_along m i j left reached road = record {
   to = j;
   opening = reached.opening;
   closing = reached.closing;
   load = reached.load;
   service = service_left i left;
-  travel = arc.1;
+  travel = road.travel;
   capacity = m.capacity;
 }
 
-abbrev pub move_of : Meaning → ℕ → ℕ → Option Place → Option Place → Option (ℕ × ℕ) → Option Move
-move_of m i j (Some left) (Some reached) (Some arc) = Some (move_along m i j left reached arc)
+abbrev pub move_of : Meaning → ℕ → ℕ → Option Place → Option Place → Option Road → Option Move
+move_of m i j (Some left) (Some reached) (Some road) = Some (move_along m i j left reached road)
 move_of m i j (Some left) (Some reached) None = None
 move_of m i j (Some left) None arc = None
 move_of m i j None reached arc = None

@@ -32,11 +32,11 @@ module _ (m : Meaning) where
   keeps_up {i} (home d back there closed) all s early =
       let soon = early d.left d.left_is in
       let opens = d.reached.opens in
-      let y = max d.reached.opening (s + service_left i d.left + d.travel) in
+      let y = max d.reached.opening (s + service_left i d.left + d.road.travel) in
       last y (after_drive time_measuring m s i 0 d ∙ within_some d.reached.closing y (omega arith))
   keeps_up {i} (stop {j = j} {rest = rest} d start there opened closed on) all s early =
       let soon = early d.left d.left_is in
-      let y = max d.reached.opening (s + service_left i d.left + d.travel) in
+      let y = max d.reached.opening (s + service_left i d.left + d.road.travel) in
       let served : (p : Place) → m.place j ≡ Some p → y + service_left j p ≤ start + d.reached.service = λ p e.
       let same : p ≡ d.reached = cc d.reached_is in
       let left = left_stop j p all.0 in

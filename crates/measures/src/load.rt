@@ -4,11 +4,12 @@ ghost use Rattle.measures.specs.LoadLaws.{load_laws};
 
 use crate::measure::Measure;
 use crate::moves::Move;
-use crate::words::one_within;
+use crate::words::{one_within, within};
 
 #[derive(Clone, Copy)]
 pub struct Load;
 
+// `words` and `at_most` answer as for time: one impl for both would overlap with the pair's.
 impl Measure for Load {
     type State = u32;
 
@@ -26,13 +27,7 @@ impl Measure for Load {
 
     // A sum that passes 32 bits is above any capacity.
     fn step(&self, state: u32, by: Move) -> Option<u32> {
-        let Some(carried) = state.checked_add(by.load) else {
-            return None;
-        };
-        if carried > by.capacity {
-            return None;
-        }
-        Some(carried)
+        within(state.checked_add(by.load)?, by.capacity)
     }
 
     fn at_most(&self, a: u32, b: u32) -> bool {

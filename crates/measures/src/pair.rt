@@ -37,13 +37,10 @@ impl<A: Measure, B: Measure> Measure for Pair<A, B> {
     }
 
     fn step(&self, state: Both<A::State, B::State>, by: Move) -> Option<Both<A::State, B::State>> {
-        let Some(first) = self.first.step(state.first, by) else {
-            return None;
-        };
-        let Some(second) = self.second.step(state.second, by) else {
-            return None;
-        };
-        Some(Both { first, second })
+        Some(Both {
+            first: self.first.step(state.first, by)?,
+            second: self.second.step(state.second, by)?,
+        })
     }
 
     fn at_most(&self, a: Both<A::State, B::State>, b: Both<A::State, B::State>) -> bool {
@@ -53,16 +50,13 @@ impl<A: Measure, B: Measure> Measure for Pair<A, B> {
     // The first part's words, then the second's; no corner is read where the two take more than 100.
     fn read(&self, words: &[u64]) -> Option<Both<A::State, B::State>> {
         let front = self.first.words();
-        if front + self.second.words() > 100 || words.len() < front {
+        if front + self.second.words() > 100 {
             return None;
         }
-        let (head, rest) = words.split_at(front);
-        let Some(first) = self.first.read(head) else {
-            return None;
-        };
-        let Some(second) = self.second.read(rest) else {
-            return None;
-        };
-        Some(Both { first, second })
+        let (head, rest) = words.split_at_checked(front)?;
+        Some(Both {
+            first: self.first.read(head)?,
+            second: self.second.read(rest)?,
+        })
     }
 }

@@ -4,7 +4,7 @@ ghost use Rattle.measures.specs.TimeLaws.{time_laws};
 
 use crate::measure::Measure;
 use crate::moves::Move;
-use crate::words::one_within;
+use crate::words::{one_within, within};
 
 #[derive(Clone, Copy)]
 pub struct Time;
@@ -26,17 +26,8 @@ impl Measure for Time {
 
     // Waits for the opening; a sum that passes 32 bits is after any closing.
     fn step(&self, state: u32, by: Move) -> Option<u32> {
-        let Some(served) = state.checked_add(by.service) else {
-            return None;
-        };
-        let Some(arrival) = served.checked_add(by.travel) else {
-            return None;
-        };
-        let start = arrival.max(by.opening);
-        if start > by.closing {
-            return None;
-        }
-        Some(start)
+        let arrival = state.checked_add(by.service)?.checked_add(by.travel)?;
+        within(arrival.max(by.opening), by.closing)
     }
 
     fn at_most(&self, a: u32, b: u32) -> bool {

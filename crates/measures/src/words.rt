@@ -1,17 +1,20 @@
-// Corners of one word.
+// Numbers within a limit, and corners of one word.
 ghost use Rattle.std.specs.Prelude.{◌≡◌};
-ghost use Rattle.measures.specs.Words.{one_within};
+ghost use Rattle.measures.specs.Words.{within, one_within};
+
+// A number, where it is at most `most`.
+pub(crate) fn within(number: u32, most: u32) -> Option<u32>
+    ensures { result ≡ within most number }
+{
+    (number <= most).then_some(number)
+}
 
 // The number in the words, where there is exactly one and it is at most `most`.
 pub fn one_within(words: &[u64], most: u32) -> Option<u32>
     ensures { result ≡ one_within most words.now }
 {
-    if words.len() != 1 {
+    let [word] = *words else {
         return None;
-    }
-    let word = words[0];
-    if word > most as u64 {
-        return None;
-    }
-    Some(word as u32)
+    };
+    within(u32::try_from(word).ok()?, most)
 }

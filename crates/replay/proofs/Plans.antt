@@ -156,7 +156,7 @@ module _ (m : Meaning) (lawful : Limits m) (l : List ℕ) where
       let once : once_answer n l ≡ Ok tt = ap (λ o. unless o Repeated (unless (missing l 1 n) Missing (Ok tt))) distinct ∙ ap (λ o. unless o Missing (Ok tt)) all in
       let drove : drive_answer m l ≡ Ok (price_of m routes) =
       ap (drive_from m (m.place 0)) is ∙ ap (λ o. drive_from m o (written routes)) depot.1 ∙ plan_driven m lawful depot.0 depot.1 routes plan.drivable 0 0 0 ∙ ap₂ (λ c r. Ok (sum_of c r)) (omega arith) (omega arith) in
-      let fleet : fleet_answer m.fleet (price_of m routes) ≡ Ok (price_of m routes) = cond-false _ _ _ (or_from _ _ (le-ltb (length routes) m.fleet.0 plan.least) (le-ltb m.fleet.1 (length routes) plan.most)) in
+      let fleet : fleet_answer m.fleet (price_of m routes) ≡ Ok (price_of m routes) = cond-false _ _ _ (or_from _ _ (le-ltb (length routes) m.fleet.least plan.least) (le-ltb m.fleet.most (length routes) plan.most)) in
       ap (λ r. after r (λ _. after (once_answer n l) (λ _. after (drive_answer m l) (λ p. fleet_answer m.fleet p)))) form
       ∙ ap (λ r. after r (λ _. after (drive_answer m l) (λ p. fleet_answer m.fleet p))) once
       ∙ ap (λ r. after r (λ p. fleet_answer m.fleet p)) drove
@@ -170,7 +170,7 @@ module _ (m : Meaning) (lawful : Limits m) (l : List ℕ) where
       let once_ok = went_after (once_answer n l) (λ _. after (drive_answer m l) (λ p. fleet_answer m.fleet p)) p formed_ok.2 in
       let drove_ok = went_after (drive_answer m l) (λ p. fleet_answer m.fleet p) p once_ok.2 in
       let q = drove_ok.0 in
-      let fleet_ok = counted (ltb q.routes m.fleet.0 || ltb m.fleet.1 q.routes) _ q p drove_ok.2 in
+      let fleet_ok = counted (ltb q.routes m.fleet.least || ltb m.fleet.most q.routes) _ q p drove_ok.2 in
       let within = or_parts _ _ fleet_ok.0 in
       let placed = passed_unless (misplaced n false 0 l) Misplaced (Ok tt) formed_ok.0 formed_ok.1 in
       let distinct = passed_unless (repeated [] 0 l) Repeated (unless (missing l 1 n) Missing (Ok tt)) once_ok.0 once_ok.1 in
@@ -184,8 +184,8 @@ module _ (m : Meaning) (lawful : Limits m) (l : List ℕ) where
         h.routes,
         h.is,
         record {
-          least = omega (arith, ltb-false q.routes m.fleet.0 within.0);
-          most = omega (arith, ltb-false m.fleet.1 q.routes within.1);
+          least = omega (arith, ltb-false q.routes m.fleet.least within.0);
+          most = omega (arith, ltb-false m.fleet.most q.routes within.1);
           drivable = drivables m h.routes h.stops h.few s.light s.schedules;
           once = λ c customer. h.once c customer.0 customer.1;
         },

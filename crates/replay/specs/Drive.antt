@@ -1,6 +1,7 @@
 -- Driving a listing as early as the windows allow: each stop in turn, or the first arc that cannot be driven.
 use Rattle.std.specs.Prelude.{ℕ, ◌+◌, max, cond, List, [], ◌∷◌, Some, None, Ok, Err, Option, Result, ◌==◌, nat_lt}
 use Rattle.routing.specs.declared.cells.Place.{Place}
+use Rattle.routing.specs.declared.cells.Road.{Road}
 use Rattle.routing.specs.Network.{Meaning}
 use Rattle.replay.specs.declared.faults.ListingFault.{ListingFault}
 use Rattle.replay.specs.declared.faults.ListingFault.TheVariants.{NoArc, TooLate, TooHeavy}
@@ -12,21 +13,21 @@ abbrev pub ready_van : Place → ℕ → ℕ → Van
 ready_van depot cost routes = record { at = 0; ready = depot.opening; load = 0; cost = cost; routes = routes }
 
 -- service begun at the stop as early as can be, or back home
-abbrev pub served : Van → ℕ → ℕ × ℕ → Place → Van
-served v j a p =
-    cond (j == 0) (ready_van p (v.cost + a.0) (v.routes + 1))
-    (record { at = j; ready = max (v.ready + a.1) p.opening + p.service; load = v.load + p.load; cost = v.cost + a.0; routes = v.routes })
+abbrev pub served : Van → ℕ → Road → Place → Van
+served v j road p =
+    cond (j == 0) (ready_van p (v.cost + road.cost) (v.routes + 1))
+    (record { at = j; ready = max (v.ready + road.travel) p.opening + p.service; load = v.load + p.load; cost = v.cost + road.cost; routes = v.routes })
 
 -- too late where even the earliest start is after the closing, too heavy where the load passes the capacity
-abbrev pub timed : ℕ → Van → ℕ → ℕ → ℕ × ℕ → Place → Result Van ListingFault
-timed capacity v k j a p =
-    cond (nat_lt p.closing (max (v.ready + a.1) p.opening)) (Err (TooLate v.at j k))
-    (cond (nat_lt capacity (v.load + p.load)) (Err (TooHeavy v.at j k)) (Ok (served v j a p)))
+abbrev pub timed : ℕ → Van → ℕ → ℕ → Road → Place → Result Van ListingFault
+timed capacity v k j road p =
+    cond (nat_lt p.closing (max (v.ready + road.travel) p.opening)) (Err (TooLate v.at j k))
+    (cond (nat_lt capacity (v.load + p.load)) (Err (TooHeavy v.at j k)) (Ok (served v j road p)))
 
-abbrev pub arrived : Meaning → Van → ℕ → ℕ → Option (ℕ × ℕ) → Option Place → Result Van ListingFault
+abbrev pub arrived : Meaning → Van → ℕ → ℕ → Option Road → Option Place → Result Van ListingFault
 arrived m v k j None p = Err (NoArc v.at j k)
-arrived m v k j (Some a) None = Err (NoArc v.at j k)
-arrived m v k j (Some a) (Some p) = timed m.capacity v k j a p
+arrived m v k j (Some road) None = Err (NoArc v.at j k)
+arrived m v k j (Some road) (Some p) = timed m.capacity v k j road p
 
 -- the arc to the listing's number j, which stands at index k
 abbrev pub stepped : Meaning → Van → ℕ → ℕ → Result Van ListingFault

@@ -22,54 +22,19 @@ pub enum ListingFault {
     FleetSize { routes: usize },
 }
 
-impl ListingFault {
-    // The number, arc and place that are handed back.
-    pub fn denial(&self) -> Denial
-        ensures { result ≡ listing_denial self.now }
-    {
-        match *self {
-            ListingFault::Misplaced { index } => Denial {
-                number: 10,
-                from: 0,
-                to: 0,
-                place: index,
-            },
-            ListingFault::Repeated { index } => Denial {
-                number: 11,
-                from: 0,
-                to: 0,
-                place: index,
-            },
-            ListingFault::Missing { customer } => Denial {
-                number: 12,
-                from: 0,
-                to: 0,
-                place: customer as usize,
-            },
-            ListingFault::NoArc { from, to, index } => Denial {
-                number: 13,
-                from,
-                to,
-                place: index,
-            },
-            ListingFault::TooLate { from, to, index } => Denial {
-                number: 14,
-                from,
-                to,
-                place: index,
-            },
-            ListingFault::TooHeavy { from, to, index } => Denial {
-                number: 15,
-                from,
-                to,
-                place: index,
-            },
-            ListingFault::FleetSize { routes } => Denial {
-                number: 16,
-                from: 0,
-                to: 0,
-                place: routes,
-            },
+// The number, arc and place that are handed back.
+impl From<ListingFault> for Denial {
+    ghost from_gives = { λ f r. r ≡ listing_denial f };
+
+    fn from(fault: ListingFault) -> Denial {
+        match fault {
+            ListingFault::Misplaced { index } => Denial::at(10, index),
+            ListingFault::Repeated { index } => Denial::at(11, index),
+            ListingFault::Missing { customer } => Denial::at(12, customer as usize),
+            ListingFault::NoArc { from, to, index } => Denial::on_arc(13, from, to, index),
+            ListingFault::TooLate { from, to, index } => Denial::on_arc(14, from, to, index),
+            ListingFault::TooHeavy { from, to, index } => Denial::on_arc(15, from, to, index),
+            ListingFault::FleetSize { routes } => Denial::at(16, routes),
         }
     }
 }

@@ -33,8 +33,8 @@ fn first_misplaced(customers: u8, listing: &[u8]) -> Option<usize>
 pub fn well_formed(customers: u8, listing: &[u8]) -> Result<(), ListingFault>
     ensures { result ≡ form_answer customers listing.now }
 {
-    match first_misplaced(customers, listing) {
-        Some(index) => Err(ListingFault::Misplaced { index }),
-        None => Ok(()),
-    }
+    first_misplaced(customers, listing).map_or(
+        Ok(()),
+        |index| Err(ListingFault::Misplaced { index }),
+    )
 }

@@ -1,8 +1,8 @@
 // Whether a listing visits every customer exactly once.
-ghost use Rattle.std.specs.Prelude.{◌≡◌, ℕ, ◌<◌, ◌≤◌, false, ◌&&◌, List, [], length, Some, None, MatchResult, nat_lt, slice_index_or};
+ghost use Rattle.std.specs.Prelude.{◌≡◌, ℕ, ◌<◌, ◌≤◌, false, ◌&&◌, List, [], length, None, Ok, Err, MatchResult, nat_lt, slice_index_or};
 ghost use Rattle.routing.specs.Routes.{count};
 ghost use Rattle.replay.specs.Listing.{repeated, missing};
-ghost use Rattle.replay.specs.Answer.{once_answer};
+ghost use Rattle.replay.specs.Answer.{once_answer, unless};
 
 use crate::faults::ListingFault;
 
@@ -13,16 +13,16 @@ fn is_repeat(number: u8, seen: &[bool; 256]) -> bool
     number > 0 && seen[number as usize]
 }
 
-// Which customers a listing visits, or the first index of one that it visits twice.
-fn visited(listing: &[u8]) -> Result<[bool; 256], usize>
-    ensures { MatchResult result (λ seen. (repeated [] 0 listing.now ≡ None) × ((c : ℕ) → 1 ≤ c → c < 256 → slice_index_or seen c false ≡ nat_lt 0 (count c listing.now))) (λ k. repeated [] 0 listing.now ≡ Some k) }
+// Which customers a listing visits, or the first that it visits twice: a table of all bytes, since there is no heap.
+fn visited(listing: &[u8]) -> Result<[bool; 256], ListingFault>
+    ensures { MatchResult result (λ seen. (repeated [] 0 listing.now ≡ None) × ((c : ℕ) → 1 ≤ c → c < 256 → slice_index_or seen c false ≡ nat_lt 0 (count c listing.now))) (λ f. unless (repeated [] 0 listing.now) ListingFault.Repeated (Ok tt) ≡ Err f) }
 {
     let mut seen = [false; 256];
-    for (k, j) in listing.iter().enumerate() {
-        if is_repeat(*j, &seen) {
-            return Err(k);
+    for (index, number) in listing.iter().enumerate() {
+        if is_repeat(*number, &seen) {
+            return Err(ListingFault::Repeated { index });
         }
-        seen[*j as usize] = true;
+        seen[*number as usize] = true;
     }
     Ok(seen)
 }
@@ -43,11 +43,9 @@ fn first_missing(customers: u8, seen: &[bool; 256]) -> Option<u8>
 pub fn each_once(customers: u8, listing: &[u8]) -> Result<(), ListingFault>
     ensures { result ≡ once_answer customers listing.now }
 {
-    match visited(listing) {
-        Err(index) => Err(ListingFault::Repeated { index }),
-        Ok(seen) => match first_missing(customers, &seen) {
-            Some(customer) => Err(ListingFault::Missing { customer }),
-            None => Ok(()),
-        },
-    }
+    let seen = visited(listing)?;
+    first_missing(customers, &seen).map_or(
+        Ok(()),
+        |customer| Err(ListingFault::Missing { customer }),
+    )
 }

@@ -8,14 +8,15 @@ use crate::faults::ListingFault;
 use crate::form::well_formed;
 use crate::once::each_once;
 use crate::vans::Priced;
+use routing::cells::Fleet;
 use routing::networks::Network;
 
 // Denies a number of routes outside the fleet.
-fn within_fleet(fleet: (u8, u8), priced: Priced) -> Result<Priced, ListingFault>
+fn within_fleet(fleet: Fleet, priced: Priced) -> Result<Priced, ListingFault>
     ensures { result ≡ fleet_answer fleet priced }
 {
     let routes = priced.routes;
-    if routes < fleet.0 as usize || routes > fleet.1 as usize {
+    if routes < fleet.least as usize || routes > fleet.most as usize {
         return Err(ListingFault::FleetSize { routes });
     }
     Ok(priced)

@@ -3,7 +3,6 @@ use Rattle.std.specs.Prelude.{◌≡◌, ℕ, zero, suc, ◌+◌, ◌*◌, ◌<�
 use Rattle.std.proofs.Common.{sym, ap, ◌∙◌, arith}
 use Rattle.std.proofs.lemmas.Bool.{cond-true, cond-false, le-leb, lt-leb, leb-true, ne_eqb, eqb-false, not-true, and_parts}
 use Rattle.std.specs.List.{slice_get}
-use Rattle.std.specs.Option.{unwrap_or}
 use Rattle.routing.specs.declared.cells.Place.{Place}
 use Rattle.routing.specs.declared.cells.Road.{Road}
 use Rattle.routing.specs.declared.cells.Head.{Head}
@@ -34,15 +33,6 @@ depot_bare : (o : Option Place) (p : Place) → depot_of o ≡ Some p → (p.loa
 depot_bare None p e = absurd (let z : ◌≡◌ {A = ℕ} 0 1 = cc in omega arith)
 depot_bare (Some q) p e = let same : unladen q ≡ p = cc in (ap (λ x. x.load) (sym same), ap (λ x. x.service) (sym same))
 
--- an arc of the table that is there
-arc_short : (o : Option (Option Road)) (cost travel : ℕ) → arc_of o ≡ Some (cost, travel) → (cost ≤ 1000000) × (travel ≤ 60000)
-arc_short None cost travel e = absurd (let z : ◌≡◌ {A = ℕ} 0 1 = cc in omega arith)
-arc_short (Some None) cost travel e = absurd (let z : ◌≡◌ {A = ℕ} 0 1 = cc in omega arith)
-arc_short (Some (Some a)) cost travel e =
-    let c = ap (λ o. (unwrap_or {T = ℕ × ℕ} o (0, 0)).0) e in
-    let t = ap (λ o. (unwrap_or {T = ℕ × ℕ} o (0, 0)).1) e in
-    (omega (arith, a.cheap), omega (arith, a.short))
-
 -- what `cond` gives when it is not None
 picked : {X : Type 0} (b : Bool) (o : Option X) (x : X) → cond b o None ≡ Some x → (b ≡ true) × (o ≡ Some x)
 picked true o x e = (refl, e)
@@ -56,18 +46,13 @@ table_limits h places arcs long = record {
   absent = λ i lt. place_none h places i lt;
   depot = λ p e. depot_bare (slice_get places 0) p e;
   capacity = h.carries;
-  least = h.least_few;
-  most = h.most_few;
-  arcs = λ i j cost travel e.
-      let p = picked _ (arc_of (slice_get arcs (i * (h.customers + 1) + j))) (cost, travel) e in
+  arcs = λ i j road e.
+      let p = picked _ (arc_of (slice_get arcs (i * (h.customers + 1) + j))) road e in
       let ends = and_parts _ _ p.0 in
       let rest = and_parts _ _ ends.1 in
-      let limits = arc_short (slice_get arcs (i * (h.customers + 1) + j)) cost travel p.1 in
       record {
         start = leb-true i h.customers ends.0;
         end = leb-true j h.customers rest.0;
         apart = eqb-false i j (not-true _ rest.1);
-        cheap = limits.0;
-        short = limits.1;
       };
 }

@@ -2,6 +2,7 @@
 use Rattle.std.specs.Prelude.{◌≡◌, ℕ, ◌+◌, ◌≤◌, cond, List, [], ◌∷◌, length, Some, None, Option, ◌==◌}
 use Rattle.std.specs.List.{flat_map, AllByRecursion}
 use Rattle.routing.specs.declared.cells.Place.{Place}
+use Rattle.routing.specs.declared.cells.Road.{Road}
 use Rattle.routing.specs.Network.{Meaning}
 
 -- how often a customer stands in a list
@@ -14,9 +15,9 @@ abbrev pub total : {X : Type 0} → (X → ℕ) → List X → ℕ
 total f [] = 0
 total f (x ∷ xs) = f x + total f xs
 
-abbrev pub arc_cost : Option (ℕ × ℕ) → ℕ
+abbrev pub arc_cost : Option Road → ℕ
 arc_cost None = 0
-arc_cost (Some a) = a.0
+arc_cost (Some road) = road.cost
 
 abbrev pub place_load : Option Place → ℕ
 place_load None = 0
@@ -39,15 +40,14 @@ pub record Drive (m : Meaning) (i j : ℕ) : Type 0 where
   pub left_is : m.place i ≡ Some left
   pub reached : Place
   pub reached_is : m.place j ≡ Some reached
-  pub cost : ℕ
-  pub travel : ℕ
-  pub arc_is : m.arc i j ≡ Some (cost, travel)
+  pub road : Road
+  pub arc_is : m.arc i j ≡ Some road
 
 -- ready to leave a place at a minute, a van can serve the stops and be home in time:
 -- some start of service inside each window, some return not after the depot's closing
 pub data OnTime (m : Meaning) : ℕ → ℕ → List ℕ → Type 0 where
-  home : {i ready : ℕ} (d : Drive m i 0) (back : ℕ) → ready + d.travel ≤ back → back ≤ d.reached.closing → OnTime m i ready []
-  stop : {i j ready : ℕ} {rest : List ℕ} (d : Drive m i j) (start : ℕ) → ready + d.travel ≤ start → d.reached.opening ≤ start → start ≤ d.reached.closing → OnTime m j (start + d.reached.service) rest → OnTime m i ready (j ∷ rest)
+  home : {i ready : ℕ} (d : Drive m i 0) (back : ℕ) → ready + d.road.travel ≤ back → back ≤ d.reached.closing → OnTime m i ready []
+  stop : {i j ready : ℕ} {rest : List ℕ} (d : Drive m i j) (start : ℕ) → ready + d.road.travel ≤ start → d.reached.opening ≤ start → start ≤ d.reached.closing → OnTime m j (start + d.reached.service) rest → OnTime m i ready (j ∷ rest)
 
 -- some departure, not before the depot's opening, from which the route is on time
 pub record Schedule (m : Meaning) (stops : List ℕ) : Type 0 where
@@ -77,8 +77,8 @@ visits = flat_map (λ route. route)
 
 -- least to most routes that can be driven, which visit every customer exactly once
 pub record Plan (m : Meaning) (routes : List (List ℕ)) : Type 0 where
-  pub least : m.fleet.0 ≤ length routes
-  pub most : length routes ≤ m.fleet.1
+  pub least : m.fleet.least ≤ length routes
+  pub most : length routes ≤ m.fleet.most
   pub drivable : AllByRecursion (Drivable m) routes
   pub once : (c : ℕ) → Customer m c → count c (visits routes) ≡ 1
 

@@ -15,16 +15,15 @@ abbrev pub depot_of : Option Place → Option Place
 depot_of None = None
 depot_of (Some p) = Some (unladen p)
 
-abbrev pub arc_of : Option (Option Road) → Option (ℕ × ℕ)
+abbrev pub arc_of : Option (Option Road) → Option Road
 arc_of None = None
-arc_of (Some None) = None
-arc_of (Some (Some a)) = Some (a.cost, a.travel)
+arc_of (Some road) = road
 
 -- the depot is without load and service whatever the table holds, and no place has an arc to itself
 abbrev pub table_place : Head → List Place → ℕ → Option Place
 table_place h places i = cond (i == 0) (depot_of (slice_get places 0)) (cond (nat_le i h.customers) (slice_get places i) None)
 
-abbrev pub table_arc : Head → List (Option Road) → ℕ → ℕ → Option (ℕ × ℕ)
+abbrev pub table_arc : Head → List (Option Road) → ℕ → ℕ → Option Road
 table_arc h arcs i j =
     cond (nat_le i h.customers && (nat_le j h.customers && not (i == j))) (arc_of (slice_get arcs (i * (h.customers + 1) + j))) None
 
@@ -33,6 +32,6 @@ table_meaning h places arcs = record {
   customers = h.customers;
   place = table_place h places;
   capacity = h.capacity;
-  fleet = (h.least, h.most);
+  fleet = h.fleet;
   arc = table_arc h arcs;
 }

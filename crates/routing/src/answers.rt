@@ -3,12 +3,12 @@ ghost use Rattle.std.specs.Prelude.{◌≡◌, ◌+◌, ◌*◌, ◌≤◌, not,
 ghost use Rattle.routing.specs.Tables.{table_meaning};
 ghost use Rattle.routing.specs.Lawful.{table_limits};
 
-use crate::cells::{Head, Place, Road};
+use crate::cells::{Fleet, Head, Place, Road};
 use crate::networks::Network;
 use crate::tables::TableNetwork;
 
 impl Place {
-    // The same window with no load and no service.
+    // The same window with no load and no service; the check knows no `..` over a type with facts.
     pub fn unladen(&self) -> Place
         ensures { (result.load ≡ 0) × (result.opening ≡ self.now.opening) × (result.closing ≡ self.now.closing) × (result.service ≡ 0) }
     {
@@ -85,18 +85,14 @@ impl<'a> Network for TableNetwork<'a> {
         self.head.capacity
     }
 
-    fn fleet(&self) -> (u8, u8) {
-        (self.head.least, self.head.most)
+    fn fleet(&self) -> Fleet {
+        self.head.fleet
     }
 
-    fn arc(&self, i: u8, j: u8) -> Option<(u32, u32)> {
+    fn arc(&self, i: u8, j: u8) -> Option<Road> {
         if !self.head.joins(i, j) {
             return None;
         }
-        let cell = &self.arcs[self.head.cell(i, j)];
-        match cell {
-            Some(road) => Some((road.cost, road.travel)),
-            None => None,
-        }
+        self.arcs[self.head.cell(i, j)]
     }
 }

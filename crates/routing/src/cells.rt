@@ -23,21 +23,35 @@ pub struct Road {
     ghost short: { travel ≤ 60000 },
 }
 
-// How many customers there are, what a van carries, and the least and most vans.
+// The least and the most number of vans.
 #[derive(Clone, Copy)]
-pub struct Head {
-    pub customers: u8,
-    pub capacity: u32,
+pub struct Fleet {
     pub least: u8,
     pub most: u8,
-    ghost some: { 1 ≤ customers },
-    ghost few: { customers ≤ 60 },
-    ghost carries: { capacity ≤ 10000 },
     ghost least_few: { least ≤ 60 },
     ghost most_few: { most ≤ 60 },
 }
 
+// How many customers there are, what a van carries, and the fleet.
+#[derive(Clone, Copy)]
+pub struct Head {
+    pub customers: u8,
+    pub capacity: u32,
+    pub fleet: Fleet,
+    ghost some: { 1 ≤ customers },
+    ghost few: { customers ≤ 60 },
+    ghost carries: { capacity ≤ 10000 },
+}
+
 impl Place {
+    // A place to fill a table with.
+    pub const BLANK: Place = Place {
+        load: 0,
+        opening: 0,
+        closing: 0,
+        service: 0,
+    };
+
     pub fn new(load: u32, opening: u32, closing: u32, service: u32) -> Option<Place>
         ensures { MatchOption result ((load ≤ 10000) × (opening ≤ closing) × (closing ≤ 60000) × (service ≤ 60000) → ⊥) (λ p. (p.load ≡ load) × (p.opening ≡ opening) × (p.closing ≡ closing) × (p.service ≡ service)) }
     {
@@ -68,14 +82,13 @@ impl Road {
 
 impl Head {
     pub fn new(customers: u8, capacity: u32, least: u8, most: u8) -> Option<Head>
-        ensures { MatchOption result ((1 ≤ customers) × (customers ≤ 60) × (capacity ≤ 10000) × (least ≤ 60) × (most ≤ 60) → ⊥) (λ h. (h.customers ≡ customers) × (h.capacity ≡ capacity) × (h.least ≡ least) × (h.most ≡ most)) }
+        ensures { MatchOption result ((1 ≤ customers) × (customers ≤ 60) × (capacity ≤ 10000) × (least ≤ 60) × (most ≤ 60) → ⊥) (λ h. (h.customers ≡ customers) × (h.capacity ≡ capacity) × (h.fleet.least ≡ least) × (h.fleet.most ≡ most)) }
     {
         if customers >= 1 && customers <= 60 && capacity <= 10_000 && least <= 60 && most <= 60 {
             Some(Head {
                 customers,
                 capacity,
-                least,
-                most,
+                fleet: Fleet { least, most },
             })
         } else {
             None

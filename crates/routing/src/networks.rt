@@ -2,7 +2,7 @@
 ghost use Rattle.std.specs.Prelude.{◌≡◌};
 ghost use Rattle.routing.specs.Network.{Meaning, Limits};
 
-use crate::cells::Place;
+use crate::cells::{Fleet, Place, Road};
 
 pub trait Network {
     ghost meaning: { Self → Meaning };
@@ -21,11 +21,10 @@ pub trait Network {
     fn capacity(&self) -> u32
         ensures { result ≡ (meaning self.now).capacity };
 
-    // The least and the most number of vans.
-    fn fleet(&self) -> (u8, u8)
+    fn fleet(&self) -> Fleet
         ensures { result ≡ (meaning self.now).fleet };
 
-    // The cost and the travel of the arc from i to j.
-    fn arc(&self, i: u8, j: u8) -> Option<(u32, u32)>
+    // The arc from i to j.
+    fn arc(&self, i: u8, j: u8) -> Option<Road>
         ensures { result ≡ (meaning self.now).arc i j };
 }

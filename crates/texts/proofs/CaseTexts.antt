@@ -1,17 +1,17 @@
 -- A case's text is the case written out.
-use Rattle.std.proofs.Common.{◌≡◌, ℕ, zero, suc, ◌+◌, ◌*◌, ◌≤◌, false, ltb, List, [], ◌∷◌, ◌++◌, map, length, take, drop, Ok, Err, Option, sym, refl, ap, ◌∙◌, subst, ⊎_elim, append-nil, suc-mul, zero-mul, add-one, arith, length-append, length-drop, take-append-drop}
+use Rattle.std.proofs.Common.{◌≡◌, ℕ, zero, suc, ◌+◌, ◌*◌, ◌≤◌, Bool, true, false, cond, ltb, List, [], ◌∷◌, ◌++◌, map, length, take, drop, Ok, Err, Option, sym, refl, ap, ◌∙◌, subst, append-nil, suc-mul, zero-mul, add-one, arith, length-append, length-drop, take-append-drop}
 use Rattle.std.specs.List.{flat_map}
 use Rattle.std.proofs.lemmas.List.{take_at, drop_at}
-use Rattle.std.proofs.lemmas.Bool.{cases_Bool, cond-true, cond-false, ltb-false, le-ltb}
+use Rattle.std.proofs.lemmas.Bool.{cond-false, ltb-false, le-ltb}
 use Rattle.texts.specs.declared.faults.TextFault.TheVariants.{Count}
 use Rattle.texts.specs.Tokens.{Token}
-use Rattle.texts.specs.Judging.{State, Judged, here, ◌>>=◌, times}
+use Rattle.texts.specs.Judging.{State, Judged, start, ◌>>=◌, nothing_after, times}
 use Rattle.texts.specs.Lines.{head_due, place_due, row_due}
 use Rattle.texts.specs.Tables.{places_due, flat, rows_due}
-use Rattle.texts.specs.Cases.{Case, side, case_due, nothing_after, when, case_judged}
+use Rattle.texts.specs.Cases.{Case, side, case_due, when, case_judged}
 use Rattle.texts.specs.Written.{mark, place_line, row_line, rows_of, written_case, each_from, PlaceFine, RowFine, CaseFine, CaseText, CasesAsWritten}
-use Rattle.texts.proofs.Marks.{Reads, reads_on, Leaves, stepped}
-use Rattle.texts.proofs.Turns.{LastFeed, feed_after, times_reads, times_leaves, times_fed}
+use Rattle.texts.proofs.Marks.{Reads, reads_on, LastFeed, feed_after, Leaves, leaves_on, same_both, stepped}
+use Rattle.texts.proofs.Turns.{times_reads, times_leaves, times_fed}
 use Rattle.texts.proofs.LineTexts.{head_reads, head_leaves, place_reads, place_leaves, row_reads, row_leaves}
 use Rattle.texts.proofs.Ends.{split_feed, nothing_left, ends_there}
 
@@ -59,31 +59,30 @@ pub record Flat (j : Judged (List (List (Option (ℕ × ℕ))))) (xs : List (Opt
 
 flat_is : (j : Judged (List (List (Option (ℕ × ℕ))))) (xs : List (Option (ℕ × ℕ))) (t : State) → flat j ≡ Ok (xs, t) → Flat j xs t
 flat_is (Ok p) xs t e =
-    let q : (flat_map (λ row. row) p.0, p.1) ≡ (xs, t) = cc in
-    record { rows = p.0; is = ap (λ (k : List (Option (ℕ × ℕ)) × State). Ok (p.0, k.1)) q; all = ap (λ (k : List (Option (ℕ × ℕ)) × State). k.0) q }
-flat_is (Err f) xs t e = let z : ◌≡◌ {A = ℕ} 0 1 = cc in absurd (omega arith)
+    let q = same_both e in
+    record { rows = p.0; is = ap (λ u. Ok (p.0, u)) q.1; all = q.0 }
+flat_is (Err f) xs t e = absurd (cc)
 
 pub record CaseReads (s t : State) (c : Case) : Type 0 where
   pub reads : Reads s t (written_case c)
   pub fine : CaseFine c
   pub fed : LastFeed s t
 
-row_fine : (end w i : ℕ) (s t : State) (row : List (Option (ℕ × ℕ))) → row_due end w i s ≡ Ok (row, t) → Reads s t (row_line row) × RowFine w i row
-row_fine end w i s t row e = let r = row_reads end w i s t row e in (r.reads, r.fine)
+row_fine : (w i : ℕ) (s t : State) (row : List (Option (ℕ × ℕ))) → row_due w i s ≡ Ok (row, t) → Reads s t (row_line row) × RowFine w i row
+row_fine w i s t row e = let r = row_reads w i s t row e in (r.reads, r.fine)
 
-case_reads : (end : ℕ) (s t : State) (c : Case) → case_due end s ≡ Ok (c, t) → CaseReads s t c
-case_reads end s t c e =
-    let a = stepped (head_due end s) _ (c, t) e in
+case_reads : (s t : State) (c : Case) → case_due s ≡ Ok (c, t) → CaseReads s t c
+case_reads s t c e =
+    let a = stepped (head_due s) _ (c, t) e in
     let n = a.value.customers + 1 in
-    let b = stepped (places_due end n a.state) _ (c, t) a.on in
-    let d = stepped (rows_due end n b.state) _ (c, t) b.on in
-    let last = d.on in
-    let same : (record { head = a.value; places = b.value; arcs = d.value }, d.state) ≡ (c, t) = cc last in
-    let f = flat_is (times (row_due end n) 0 n b.state) d.value d.state d.is in
-    let head = head_reads end s a.state a.value a.is in
-    let places = times_reads (place_due end) place_line PlaceFine (place_reads end) 0 n a.state b.state b.value b.is in
-    let rows = times_reads (row_due end n) row_line (RowFine n) (row_fine end n) 0 n b.state d.state f.rows f.is in
-    let fed = times_fed (row_due end n) row_line (RowFine n) (row_fine end n) (λ i s t row g. (row_reads end n i s t row g).fed) 0 a.value.customers b.state d.state f.rows (subst (λ k. times (row_due end n) 0 k b.state ≡ Ok (f.rows, d.state)) (add-one a.value.customers) f.is) in
+    let b = stepped (places_due n a.state) _ (c, t) a.on in
+    let d = stepped (rows_due n b.state) _ (c, t) b.on in
+    let same = same_both d.on in
+    let f = flat_is (times (row_due n) 0 n b.state) d.value d.state d.is in
+    let head = head_reads s a.state a.value a.is in
+    let places = times_reads place_due place_line PlaceFine place_reads 0 n a.state b.state b.value b.is in
+    let rows = times_reads (row_due n) row_line (RowFine n) (row_fine n) 0 n b.state d.state f.rows f.is in
+    let fed = times_fed (row_due n) row_line (RowFine n) (row_fine n) (λ i s t row g. (row_reads n i s t row g).fed) 0 a.value.customers b.state d.state f.rows (subst (λ k. times (row_due n) 0 k b.state ≡ Ok (f.rows, d.state)) (add-one a.value.customers) f.is) in
     let long = long_rows n 0 f.rows rows.each in
     let cut : rows_of n n d.value ≡ f.rows = ap (rows_of n n) (sym f.all) ∙ rows_again n n f.rows rows.long long in
     let all : CaseReads s d.state (record { head = a.value; places = b.value; arcs = d.value }) = record {
@@ -97,44 +96,37 @@ case_reads end s t c e =
       };
       fed = feed_after head.0 (feed_after places.reads fed);
     } in
-    subst (λ (k : Case × State). CaseReads s k.1 k.0) same all
+    subst (λ u. CaseReads s u c) same.1 (subst (CaseReads s d.state) same.0 all)
 
-case_leaves : (end : ℕ) (s : State) (c : Case) → map mark s.1 ≡ written_case c → CaseFine c → Leaves (case_due end s) c []
-case_leaves end s c e fine =
+case_leaves : (s : State) (c : Case) → map mark s.tokens ≡ written_case c → CaseFine c → Leaves (case_due s) c []
+case_leaves s c e fine =
     let n = side c.head in
     let rows = rows_of n n c.arcs in
-    let a = head_leaves end s c.head (flat_map place_line c.places ++ flat_map row_line rows) e fine.head in
-    let b = times_leaves (place_due end) place_line PlaceFine (place_leaves end) 0 n a.state c.places (flat_map row_line rows) fine.places a.marks fine.each_place in
-    let d = times_leaves (row_due end n) row_line (RowFine n) (row_leaves end n) 0 n b.state rows [] (count_rows n n c.arcs) (b.marks ∙ sym (append-nil (flat_map row_line rows))) fine.each_row in
-    let g : rows_due end n b.state ≡ Ok (c.arcs, d.state) = ap flat d.ok ∙ ap (λ l. Ok (l, d.state)) (joined_again n n c.arcs fine.arcs) in
-    record {
-      state = d.state;
-      ok = ap (λ j. j >>= λ h s. places_due end (side h) s >>= λ places s. rows_due end (side h) s >>= λ arcs s. Ok (record { head = h; places = places; arcs = arcs }, s)) a.ok
-          ∙ ap (λ j. j >>= λ places s. rows_due end n s >>= λ arcs s. Ok (record { head = c.head; places = places; arcs = arcs }, s)) b.ok
-          ∙ ap (λ j. j >>= λ arcs s. Ok (record { head = c.head; places = c.places; arcs = arcs }, s)) g;
-      marks = d.marks;
-    }
+    let a = head_leaves s c.head (flat_map place_line c.places ++ flat_map row_line rows) e fine.head in
+    let b = times_leaves place_due place_line PlaceFine place_leaves 0 n a.state c.places (flat_map row_line rows) fine.places a.marks fine.each_place in
+    let d = times_leaves (row_due n) row_line (RowFine n) (row_leaves n) 0 n b.state rows [] (count_rows n n c.arcs) (b.marks ∙ sym (append-nil (flat_map row_line rows))) fine.each_row in
+    let g : Leaves (rows_due n b.state) c.arcs [] = record { state = d.state; ok = ap flat d.ok ∙ ap (λ l. Ok (l, d.state)) (joined_again n n c.arcs fine.arcs); marks = d.marks } in
+    leaves_on _ a (leaves_on _ b (leaves_on _ g (record { state = d.state; ok = refl; marks = d.marks })))
 
-when_is : {X : Type 0} (end at : ℕ) (x y : X) → when (nothing_after end at) x ≡ Ok y → (end ≤ at) × (x ≡ y)
-when_is end at x y e =
-    ⊎_elim
-    (λ t. let f = sym (ap (λ r. when r x) (cond-true (ltb at end) (Err (Count at)) (Ok tt) t)) ∙ e in let z : ◌≡◌ {A = ℕ} 0 1 = cc f in absurd (omega arith))
-    (λ t. let f = sym (ap (λ r. when r x) (cond-false (ltb at end) (Err (Count at)) (Ok tt) t)) ∙ e in let same : x ≡ y = cc f in (ltb-false at end t, same))
-    (cases_Bool (ltb at end))
+when_is : {X : Type 0} (s : State) (x y : X) → when (nothing_after s) x ≡ Ok y → (s.end ≤ s.at) × (x ≡ y)
+when_is s x y e = by (ltb s.at s.end) refl e
+  where
+    by : (b : Bool) → ltb s.at s.end ≡ b → when (cond b (Err (Count s.at)) (Ok tt)) x ≡ Ok y → (s.end ≤ s.at) × (x ≡ y)
+    by true p f = absurd (cc f)
+    by false p f = (ltb-false s.at s.end p, cc f)
 
 no_marks : (ts : List Token) → map mark ts ≡ [] → ts ≡ []
 no_marks [] e = refl
-no_marks (t ∷ ts) e = let z : ◌≡◌ {A = ℕ} 0 1 = cc in absurd (omega arith)
+no_marks (t ∷ ts) e = absurd (cc)
 
 sound : (text : List ℕ) (c : Case) → case_judged text ≡ Ok c → CaseText text c
 unfolding case_judged
 sound text c e =
-    let end = length text in
-    let p = stepped (case_due end (here text 0)) (λ c s. when (nothing_after end s.0) c) c e in
-    let w = when_is end p.state.0 p.value c p.on in
-    let r = case_reads end (here text 0) p.state p.value p.is in
-    let at = split_feed false 0 text r.fed.before r.fed.at p.state.1 r.fed.split in
-    let left = nothing_left text r.fed.at p.state.1 at (omega (arith, w.0, r.fed.after)) in
+    let p = stepped (case_due (start text)) (λ c s. when (nothing_after s) c) c e in
+    let w = when_is p.state p.value c p.on in
+    let r = case_reads (start text) p.state p.value p.is in
+    let at = split_feed false 0 text r.fed.before r.fed.at p.state.tokens r.fed.split in
+    let left = nothing_left text r.fed.at p.state.tokens at (omega (arith, w.0, r.fed.after, r.reads.end)) in
     let all : CaseText text p.value = record {
       marks = ap (map mark) (r.reads.split ∙ ap (λ l. r.reads.used ++ l) left.1 ∙ append-nil r.reads.used) ∙ r.reads.marks;
       fine = r.fine;
@@ -145,13 +137,12 @@ sound text c e =
 complete : (text : List ℕ) (c : Case) → CaseText text c → case_judged text ≡ Ok c
 unfolding case_judged
 complete text c h =
-    let end = length text in
-    let p = case_leaves end (here text 0) c h.marks h.fine in
-    let r = case_reads end (here text 0) p.state c p.ok in
-    let at = split_feed false 0 text r.fed.before r.fed.at p.state.1 r.fed.split in
-    let over = ends_there text r.fed.at p.state.1 at (no_marks p.state.1 p.marks) h.fed in
-    ap (λ j. j >>= λ c s. when (nothing_after end s.0) c) p.ok
-    ∙ ap (λ u. when u c) (cond-false (ltb p.state.0 end) _ _ (le-ltb p.state.0 end (omega (arith, r.fed.after))))
+    let p = case_leaves (start text) c h.marks h.fine in
+    let r = case_reads (start text) p.state c p.ok in
+    let at = split_feed false 0 text r.fed.before r.fed.at p.state.tokens r.fed.split in
+    let over = ends_there text r.fed.at p.state.tokens at (no_marks p.state.tokens p.marks) h.fed in
+    ap (λ j. j >>= λ c s. when (nothing_after s) c) p.ok
+    ∙ ap (λ u. when u c) (cond-false (ltb p.state.at p.state.end) _ _ (le-ltb p.state.at p.state.end (omega (arith, r.fed.after, r.reads.end))))
 
 pub cases_as_written : (text : List ℕ) → CasesAsWritten text
 cases_as_written text c = (sound text c, complete text c)

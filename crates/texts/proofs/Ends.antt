@@ -18,8 +18,8 @@ further : {at o : ℕ} {b : ℕ} {bs : List ℕ} {ts : List Token} → SplitAt (
 further {at} {o} {b} p = record { first = b ∷ p.first; rest = p.rest; split = ap (λ l. b ∷ l) p.split; offset = omega (arith, p.offset); after = p.after }
 
 pub split_feed : (inside : Bool) (at : ℕ) (bs : List ℕ) (us : List Token) (o : ℕ) (ts : List Token) → tokens inside at bs ≡ us ++ (feed o ∷ ts) → SplitAt at bs o ts
-split_feed inside at [] [] o ts e = let z : ◌≡◌ {A = ℕ} 0 1 = cc in absurd (omega arith)
-split_feed inside at [] (u ∷ us) o ts e = let z : ◌≡◌ {A = ℕ} 0 1 = cc in absurd (omega arith)
+split_feed inside at [] [] o ts e = absurd (cc)
+split_feed inside at [] (u ∷ us) o ts e = absurd (cc)
 split_feed inside at (b ∷ bs) us o ts e =
     ⊎_elim
     (λ t. let is = eqb-true b 10 t in fed (λ k vs f. split_feed k (at + 1) bs vs o ts f) us is (sym (past_feed inside at b bs is) ∙ e))
@@ -38,7 +38,7 @@ split_feed inside at (b ∷ bs) us o ts e =
 
     lettered : ((k : Bool) (vs : List Token) → tokens k (at + 1) bs ≡ vs ++ (feed o ∷ ts) → SplitAt (at + 1) bs o ts) → (inside : Bool) (us : List Token) → letter b ≡ true → tokens inside at (b ∷ bs) ≡ us ++ (feed o ∷ ts) → SplitAt at (b ∷ bs) o ts
     lettered more true us l f = further (more true us (sym (in_word at b bs l) ∙ f))
-    lettered more false [] l f = let g = sym (at_word at b bs l) ∙ f in let z : ◌≡◌ {A = ℕ} 0 1 = cc g in absurd (omega arith)
+    lettered more false [] l f = let g = sym (at_word at b bs l) ∙ f in absurd (cc g)
     lettered more false (u ∷ us) l f =
         let g = sym (at_word at b bs l) ∙ f in
         let rest : tokens true (at + 1) bs ≡ us ++ (feed o ∷ ts) = cc g in
@@ -47,10 +47,10 @@ split_feed inside at (b ∷ bs) us o ts e =
 -- a text with a line feed has a token
 pub has_token : (inside : Bool) (at : ℕ) (bs : List ℕ) (k : ℕ) → k < length bs → get_or bs k 0 ≡ 10 → tokens inside at bs ≡ [] → ⊥
 has_token inside at [] k h e f = omega arith
-has_token inside at (b ∷ bs) zero h e f = let g = sym (past_feed inside at b bs e) ∙ f in let z : ◌≡◌ {A = ℕ} 0 1 = cc g in omega arith
+has_token inside at (b ∷ bs) zero h e f = let g = sym (past_feed inside at b bs e) ∙ f in cc g
 has_token inside at (b ∷ bs) (suc k) h e f =
     ⊎_elim
-    (λ t. let g = sym (past_feed inside at b bs (eqb-true b 10 t)) ∙ f in let z : ◌≡◌ {A = ℕ} 0 1 = cc g in omega arith)
+    (λ t. let g = sym (past_feed inside at b bs (eqb-true b 10 t)) ∙ f in cc g)
     (λ t. ⊎_elim
     (λ u. has_token false (at + 1) bs k (omega arith) e (sym (past_space inside at b bs (eqb-true b 32 u)) ∙ f))
     (λ u. lettered (λ g. has_token true (at + 1) bs k (omega arith) e g) inside (is_letter b (eqb-false b 32 u) (eqb-false b 10 t)) f)
@@ -59,7 +59,7 @@ has_token inside at (b ∷ bs) (suc k) h e f =
   where
     lettered : (tokens true (at + 1) bs ≡ [] → ⊥) → (inside : Bool) → letter b ≡ true → tokens inside at (b ∷ bs) ≡ [] → ⊥
     lettered more true l g = more (sym (in_word at b bs l) ∙ g)
-    lettered more false l g = let q = sym (at_word at b bs l) ∙ g in let z : ◌≡◌ {A = ℕ} 0 1 = cc q in omega arith
+    lettered more false l g = let q = sym (at_word at b bs l) ∙ g in cc q
 
 -- the text ends right after the feed: then it is the last byte, and no token follows
 pub nothing_left : (text : List ℕ) (o : ℕ) (ts : List Token) → SplitAt 0 text o ts → length text ≤ o + 1 → Fed text × (ts ≡ [])

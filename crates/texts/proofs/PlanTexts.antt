@@ -16,8 +16,8 @@ pub record Listed (a : Result ℕ TextFault) (b : Result (List ℕ) TextFault) (
   pub both : first ∷ rest ≡ ns
 
 listed_is : (a : Result ℕ TextFault) (b : Result (List ℕ) TextFault) (ns : List ℕ) → listed a b ≡ Ok ns → Listed a b ns
-listed_is (Err f) b ns e = let z : ◌≡◌ {A = ℕ} 0 1 = cc in absurd (omega arith)
-listed_is (Ok n) (Err f) ns e = let z : ◌≡◌ {A = ℕ} 0 1 = cc in absurd (omega arith)
+listed_is (Err f) b ns e = absurd (cc)
+listed_is (Ok n) (Err f) ns e = absurd (cc)
 listed_is (Ok n) (Ok ms) ns e = record { first = n; rest = ms; first_is = refl; rest_is = refl; both = cc }
 
 pub record Spelt (most : ℕ) (ws : List (ℕ × List ℕ)) (ns : List ℕ) : Type 0 where
@@ -27,7 +27,7 @@ pub record Spelt (most : ℕ) (ws : List (ℕ × List ℕ)) (ns : List ℕ) : Ty
 
 sound : (most : ℕ) (ws : List (ℕ × List ℕ)) (ns : List ℕ) → listing_judged most ws ≡ Ok ns → Spelt most ws ns
 sound most [] ns e = let z : [] ≡ ns = cc in subst (Spelt most []) z (record { words = refl; few = omega arith; small = tt })
-sound zero (w ∷ ws) ns e = let z : ◌≡◌ {A = ℕ} 0 1 = cc in absurd (omega arith)
+sound zero (w ∷ ws) ns e = absurd (cc)
 sound (suc most) (w ∷ ws) ns e =
     let l = listed_is (within 0 255 w.0 (numeral w.1)) (listing_judged most ws) ns e in
     let n = within_is 0 255 w.0 (numeral w.1) l.first l.first_is in
@@ -40,8 +40,8 @@ sound (suc most) (w ∷ ws) ns e =
 
 complete : (most : ℕ) (ws : List (ℕ × List ℕ)) (ns : List ℕ) → Spelt most ws ns → listing_judged most ws ≡ Ok ns
 complete most [] [] s = refl
-complete most [] (n ∷ ns) s = let e = s.words in let z : ◌≡◌ {A = ℕ} 0 1 = cc in absurd (omega arith)
-complete most (w ∷ ws) [] s = let e = s.words in let z : ◌≡◌ {A = ℕ} 0 1 = cc in absurd (omega arith)
+complete most [] (n ∷ ns) s = let e = s.words in absurd (cc)
+complete most (w ∷ ws) [] s = let e = s.words in absurd (cc)
 complete zero (w ∷ ws) (n ∷ ns) s = absurd (omega (arith, s.few))
 complete (suc most) (w ∷ ws) (n ∷ ns) s =
     let e = s.words in

@@ -1,12 +1,10 @@
--- What one step over a text does to the tokens ahead.
-use Rattle.std.proofs.Common.{◌≡◌, ℕ, ◌+◌, ◌-◌, ◌<◌, ◌≤◌, Bool, true, false, eqb, ◌⊎◌, List, [], ◌∷◌, length, get_or, take, drop, Ok, Err, sym, refl, ap, ◌∙◌, inl, inr, ⊎_elim, add-zero, add_assoc, one-add, arith}
+-- What a step over the bytes in front does to the tokens.
+use Rattle.std.proofs.Common.{◌≡◌, ℕ, ◌+◌, ◌≤◌, Bool, true, false, eqb, ◌⊎◌, List, [], ◌∷◌, length, take, drop, Err, sym, refl, ap, ◌∙◌, inl, inr, ⊎_elim, add-zero, add_assoc, one-add, arith}
 use Rattle.std.specs.List.{prefix_len}
-use Rattle.std.proofs.lemmas.List.{at_drop_more, at_drop_all, drop_more, drop-drop, length-take-le}
-use Rattle.std.proofs.lemmas.List.Sums.{prefix_len-drop_yes, prefix_len-le-length}
-use Rattle.std.proofs.lemmas.Bool.{cases_Bool, or_parts, not-true, not-false, eqb-true, or_cases, or_from, or_left, or_right, not_from_true, not_from_false, eq-eqb, ne_eqb, cond-false}
+use Rattle.std.proofs.lemmas.Bool.{cases_Bool, or_parts, not-true, not-false, eqb-true, or_cases, or_from, not_from_true, not_from_false, ne_eqb, eqb-false, cond-true, cond-false}
 use Rattle.texts.specs.declared.faults.TextFault.TheVariants.{Count}
-use Rattle.texts.specs.Judging.{word_due, first_word, line_end, first_feed, here}
-use Rattle.texts.specs.Tokens.{word, feed, blank, letter, front, tokens, ahead, words}
+use Rattle.texts.specs.Judging.{first_word}
+use Rattle.texts.specs.Tokens.{Token, word, feed, space, blank, letter, front, tokens, words}
 
 pub past_space : (inside : Bool) (at b : ℕ) (bs : List ℕ) → b ≡ 32 → tokens inside at (b ∷ bs) ≡ tokens false (at + 1) bs
 past_space inside at b bs e = rw e
@@ -26,6 +24,9 @@ in_word at b bs h = let p = letter_parts b h in let e = p.0 in let f = p.1 in rw
 pub at_word : (at b : ℕ) (bs : List ℕ) → letter b ≡ true → tokens false at (b ∷ bs) ≡ word at (front (b ∷ bs)) ∷ tokens true (at + 1) bs
 at_word at b bs h = let p = letter_parts b h in let e = p.0 in let f = p.1 in rw (f, e)
 
+pub is_letter : (b : ℕ) → (b ≡ 32 → ⊥) → (b ≡ 10 → ⊥) → letter b ≡ true
+is_letter b s f = not_from_false (blank b) (or_from (eqb b 32) (eqb b 10) (ne_eqb b 32 s) (ne_eqb b 10 f))
+
 same_outside : (at b : ℕ) (bs : List ℕ) → letter b ≡ false → tokens true at (b ∷ bs) ≡ tokens false at (b ∷ bs)
 same_outside at b bs h =
     ⊎_elim (λ e. past_space true at b bs e ∙ sym (past_space false at b bs e)) (λ e. past_feed true at b bs e ∙ sym (past_feed false at b bs e)) (blank_cases b h)
@@ -39,57 +40,55 @@ rest_of_word at (b ∷ bs) =
     (λ h. same_outside at b bs h ∙ sym (ap (λ k. tokens false (at + k) (drop k (b ∷ bs))) (cond-false (letter b) (1 + prefix_len letter bs) 0 h) ∙ ap (λ n. tokens false n (b ∷ bs)) (add-zero at)))
     (cases_Bool (letter b))
 
--- a word's first byte stands at an offset: the word, and then the tokens after it
-pub word_ahead : (text : List ℕ) (at : ℕ) → at < length text → letter (get_or text at 0) ≡ true → ahead text at ≡ word at (front (drop at text)) ∷ ahead text (at + prefix_len letter (drop at text))
-word_ahead text at h l =
-    let n = prefix_len letter (drop (at + 1) text) in
-    let more : prefix_len letter (drop at text) ≡ 1 + n = prefix_len-drop_yes letter text at 0 h l in
-    at_drop_more (tokens false at) text at 0 h ∙ at_word at (get_or text at 0) (drop (at + 1) text) l
-    ∙ (λ i. word at (front (sym (drop_more text at 0 h) i)) ∷ rest_of_word (at + 1) (drop (at + 1) text) i)
-    ∙ ap (λ ts. word at (front (drop at text)) ∷ ts) (ap (tokens false (at + 1 + n)) (drop-drop n (at + 1) text) ∙ ap (ahead text) (add_assoc at 1 n ∙ ap (λ k. at + k) (sym more)))
+-- bytes that pass a test are passed over, where each changes nothing that is seen of the tokens
+module _ {X : Type 0} (p : ℕ → Bool) (seen : List Token → X) (one : (at b : ℕ) (bs : List ℕ) → p b ≡ true → seen (tokens false at (b ∷ bs)) ≡ seen (tokens false (at + 1) bs)) where
+  passed : (at : ℕ) (bs : List ℕ) → seen (tokens false (at + prefix_len p bs) (drop (prefix_len p bs) bs)) ≡ seen (tokens false at bs)
+  passed at [] = refl
+  passed at (b ∷ bs) =
+      ⊎_elim
+      (λ h. sym (one at b bs h ∙ sym (passed (at + 1) bs) ∙ rw (h, add_assoc at 1 (prefix_len p bs), one-add)))
+      (λ h. ap (λ k. seen (tokens false (at + k) (drop k (b ∷ bs)))) (cond-false (p b) (1 + prefix_len p bs) 0 h) ∙ ap (λ n. seen (tokens false n (b ∷ bs))) (add-zero at))
+      (cases_Bool (p b))
 
-pub space_ahead : (text : List ℕ) (at : ℕ) → at < length text → get_or text at 0 ≡ 32 → ahead text at ≡ ahead text (at + 1)
-space_ahead text at h e = at_drop_more (tokens false at) text at 0 h ∙ past_space false at (get_or text at 0) (drop (at + 1) text) e
+pub spaces_passed : (at : ℕ) (bs : List ℕ) → tokens false (at + prefix_len space bs) (drop (prefix_len space bs) bs) ≡ tokens false at bs
+spaces_passed = passed space (λ ts. ts) (λ at b bs h. past_space false at b bs (eqb-true b 32 h))
 
-pub feed_ahead : (text : List ℕ) (at : ℕ) → at < length text → get_or text at 0 ≡ 10 → ahead text at ≡ feed at ∷ ahead text (at + 1)
-feed_ahead text at h e = at_drop_more (tokens false at) text at 0 h ∙ past_feed false at (get_or text at 0) (drop (at + 1) text) e
+pub blanks_passed : (at : ℕ) (bs : List ℕ) → words (tokens false (at + prefix_len blank bs) (drop (prefix_len blank bs) bs)) ≡ words (tokens false at bs)
+blanks_passed =
+    passed blank words (λ at b bs h. ⊎_elim (λ s. ap words (past_space false at b bs s)) (λ f. ap words (past_feed false at b bs f)) (blank_cases b (not_from_true (blank b) h)))
 
-pub none_ahead : (text : List ℕ) (at : ℕ) → length text ≤ at → ahead text at ≡ []
-none_ahead text at h = at_drop_all (tokens false at) text at h
+-- after the bytes that pass a test stands none that does
+pub none_passes : (p : ℕ → Bool) (bs : List ℕ) → prefix_len p (drop (prefix_len p bs) bs) ≡ 0
+none_passes p [] = refl
+none_passes p (b ∷ bs) =
+    ⊎_elim
+    (λ h. ap (λ k. prefix_len p (drop k (b ∷ bs))) (cond-true (p b) (1 + prefix_len p bs) 0 h ∙ one-add (prefix_len p bs)) ∙ none_passes p bs)
+    (λ h. ap (λ k. prefix_len p (drop k (b ∷ bs))) (cond-false (p b) (1 + prefix_len p bs) 0 h) ∙ cond-false (p b) (1 + prefix_len p bs) 0 h)
+    (cases_Bool (p b))
 
-pub is_letter : (b : ℕ) → (b ≡ 32 → ⊥) → (b ≡ 10 → ⊥) → letter b ≡ true
-is_letter b s f = not_from_false (blank b) (or_from (eqb b 32) (eqb b 10) (ne_eqb b 32 s) (ne_eqb b 10 f))
+-- where none passes, the first byte does not
+first_fails : (p : ℕ → Bool) (b : ℕ) (bs : List ℕ) → prefix_len p (b ∷ bs) ≡ 0 → p b ≡ false
+first_fails p b bs e = ⊎_elim (λ h. absurd (omega (arith, sym (cond-true (p b) (1 + prefix_len p bs) 0 h) ∙ e))) (λ h. h) (cases_Bool (p b))
 
-pub not_letter : (b : ℕ) → (b ≡ 32) ⊎ (b ≡ 10) → letter b ≡ false
-not_letter b e = not_from_true (blank b) (⊎_elim (λ s. or_left (eqb b 32) (eqb b 10) (eq-eqb b 32 s)) (λ f. or_right (eqb b 32) (eqb b 10) (eq-eqb b 10 f)) e)
+-- what is ahead where a word stands in front
+pub word_found : (at n : ℕ) (bs : List ℕ) → n ≡ prefix_len letter bs → 1 ≤ n → tokens false at bs ≡ word at (take n bs) ∷ tokens false (at + n) (drop n bs)
+word_found at n [] e h = absurd (omega arith)
+word_found at n (b ∷ bs) e h =
+    ⊎_elim
+    (λ l. at_word at b bs l ∙ ap (λ ts. word at (front (b ∷ bs)) ∷ ts) (sym (in_word at b bs l) ∙ rest_of_word at (b ∷ bs))
+    ∙ ap (λ k. word at (take k (b ∷ bs)) ∷ tokens false (at + k) (drop k (b ∷ bs))) (sym e))
+    (λ l. absurd (omega (arith, cond-false (letter b) (1 + prefix_len letter bs) 0 l)))
+    (cases_Bool (letter b))
 
-pub blank_words : (text : List ℕ) (at : ℕ) → at < length text → blank (get_or text at 0) ≡ true → words (ahead text at) ≡ words (ahead text (at + 1))
-blank_words text at h e =
-    ⊎_elim (λ s. ap words (space_ahead text at h s)) (λ f. ap words (feed_ahead text at h f)) (blank_cases (get_or text at 0) (not_from_true _ e))
+pub none_left : (at : ℕ) (bs : List ℕ) → prefix_len blank bs ≡ 0 → prefix_len letter bs ≡ 0 → tokens false at bs ≡ []
+none_left at [] e f = refl
+none_left at (b ∷ bs) e f = let p = first_fails blank b bs e in let q = not-false (blank b) (first_fails letter b bs f) in let z : true ≡ false = sym q ∙ p in cc
 
--- a word that is due and found, after the spaces before it
-pub found_word : (text : List ℕ) (at start stop end : ℕ) → ahead text start ≡ ahead text at → start < length text → letter (get_or text start 0) ≡ true → stop ≡ start + prefix_len letter (drop start text) → word_due end (here text at) ≡ Ok ((start, take (stop - start) (drop start text)), here text stop)
-found_word text at start stop end same h l e =
-    let n = prefix_len letter (drop start text) in
-    let long : length (front (drop start text)) ≡ n = length-take-le n (drop start text) (prefix_len-le-length letter (drop start text)) in
-    let off : start + length (front (drop start text)) ≡ stop = ap (λ k. start + k) long ∙ sym e in
-    let size : n ≡ stop - start = omega arith in
-    ap (first_word end) (sym same ∙ word_ahead text start h l)
-    ∙ (λ i. Ok ((start, take (size i) (drop start text)), (off i, ahead text (sym e i))))
+-- neither a space nor a word in front: the text or the line ends there
+feed_there : (b : ℕ) (bs : List ℕ) → prefix_len space (b ∷ bs) ≡ 0 → prefix_len letter (b ∷ bs) ≡ 0 → b ≡ 10
+feed_there b bs e f =
+    ⊎_elim (λ s. absurd (eqb-false b 32 (first_fails space b bs e) s)) (λ t. t) (blank_cases b (first_fails letter b bs f))
 
--- a line's end that is due and found
-pub found_end : (text : List ℕ) (at stop end : ℕ) → ahead text stop ≡ ahead text at → stop < length text → get_or text stop 0 ≡ 10 → line_end end (here text at) ≡ Ok (here text (stop + 1))
-found_end text at stop end same h e = ap (first_feed end) (sym same ∙ feed_ahead text stop h e)
-
--- a word stands where the line's end is due
-pub word_left : (text : List ℕ) (at stop end : ℕ) → ahead text stop ≡ ahead text at → stop < length text → letter (get_or text stop 0) ≡ true → line_end end (here text at) ≡ Err (Count stop)
-word_left text at stop end same h l = ap (first_feed end) (sym same ∙ word_ahead text stop h l)
-
--- the text or the line ends where a word is due
-pub no_word : (text : List ℕ) (at stop : ℕ) → ahead text stop ≡ ahead text at → (stop ≡ length text) ⊎ ((stop < length text) × (get_or text stop 0 ≡ 10)) → word_due (length text) (here text at) ≡ Err (Count stop)
-no_word text at stop same =
-    ⊎_elim (λ e. ap (first_word (length text)) (sym same ∙ none_ahead text stop (omega arith)) ∙ ap (λ n. Err (Count n)) (sym e))
-    (λ p. ap (first_word (length text)) (sym same ∙ feed_ahead text stop p.0 p.1))
-
-pub no_end : (text : List ℕ) (at stop : ℕ) → ahead text stop ≡ ahead text at → stop ≡ length text → line_end (length text) (here text at) ≡ Err (Count stop)
-no_end text at stop same e = ap (first_feed (length text)) (sym same ∙ none_ahead text stop (omega arith)) ∙ ap (λ n. Err (Count n)) (sym e)
+pub no_word : (at : ℕ) (bs : List ℕ) → prefix_len space bs ≡ 0 → prefix_len letter bs ≡ 0 → first_word (at + length bs) (tokens false at bs) ≡ Err (Count at)
+no_word at [] e f = ap (λ n. Err (Count n)) (add-zero at)
+no_word at (b ∷ bs) e f = ap (first_word (at + length (b ∷ bs))) (past_feed false at b bs (feed_there b bs e f))

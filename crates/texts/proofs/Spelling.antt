@@ -1,22 +1,27 @@
 -- Number words and the decimals that numbers are written in.
-use Rattle.std.proofs.Common.{◌≡◌, ℕ, zero, suc, ◌^◌, ◌<◌, ◌≤◌, true, not, ◌&&◌, ◌||◌, eqb, leb, ◌⊎◌, List, length, get_or, Some, None, Ok, Err, decimal, Option, sym, refl, ap, ◌∙◌, inl, inr, ⊎_elim, arith}
+use Rattle.std.proofs.Common.{◌≡◌, ℕ, zero, suc, ◌^◌, ◌<◌, ◌≤◌, Bool, true, false, cond, not, ◌&&◌, ◌||◌, eqb, leb, ◌⊎◌, List, length, get_or, Some, None, Ok, Err, decimal, Option, Result, sym, refl, ap, ◌∙◌, inl, inr, ⊎_elim, arith}
 use Rattle.std.specs.Str.Parse.{digits_value}
 use Rattle.std.specs.Str.{all_ascii_digits}
 use Rattle.std.proofs.lemmas.Str.Parse.{IsNumeralModel, numerals_by_value, tells_all_ascii_digits, digits_value_short}
 use Rattle.std.proofs.lemmas.Fmt.{digits_decimal, digits_value-decimal, decimal-digits_value, length-decimal-le, first_decimal, decimal_nonempty, decimal_digit}
-use Rattle.std.proofs.lemmas.Bool.{and_from, and_parts, cases_Bool, cond-true, cond-false, leb-true, le-leb, eqb-true, eqb-false, eq-eqb, ne_eqb, or_left, or_right, or_cases, not_from_false, not-true}
+use Rattle.std.proofs.lemmas.Bool.{and_from, and_parts, cond-true, leb-true, le-leb, eqb-true, eqb-false, eq-eqb, ne_eqb, or_left, or_right, or_cases, not_from_false, not-true}
 use Rattle.texts.specs.declared.faults.TextFault.TheVariants.{Range}
 use Rattle.texts.specs.Numbers.{shaped, number_word, numeral, within}
 
-own : IsNumeralModel (λ ds. all_ascii_digits ds ≡ true) (digits_value 10)
+pub own : IsNumeralModel (λ ds. all_ascii_digits ds ≡ true) (digits_value 10)
 own = numerals_by_value (λ ds. all_ascii_digits ds ≡ true) tells_all_ascii_digits
 
+-- what a test grants
+pub granted_if : {X F : Type 0} (b : Bool) (x : Result X F) (f : F) (y : X) → cond b x (Err f) ≡ Ok y → (b ≡ true) × (x ≡ Ok y)
+granted_if true x f y e = (refl, e)
+granted_if false x f y e = absurd (cc)
+
+some_if : {X : Type 0} (b : Bool) (x y : X) → cond b (Some x) None ≡ Some y → (b ≡ true) × (x ≡ y)
+some_if true x y e = (refl, cc)
+some_if false x y e = absurd (cc)
+
 pub numeral_is : (w : List ℕ) (n : ℕ) → numeral w ≡ Some n → (number_word w ≡ true) × (digits_value 10 w ≡ n)
-numeral_is w n e =
-    ⊎_elim
-    (λ t. (t, let f = sym (cond-true (number_word w) (Some (digits_value 10 w)) None t) ∙ e in cc))
-    (λ t. let f = sym (cond-false (number_word w) (Some (digits_value 10 w)) None t) ∙ e in let z : ◌≡◌ {A = ℕ} 0 1 = cc in absurd (omega arith))
-    (cases_Bool (number_word w))
+numeral_is w n e = some_if (number_word w) (digits_value 10 w) n e
 
 -- a number word is its number's decimal
 pub word_is_decimal : (w : List ℕ) (n : ℕ) → numeral w ≡ Some n → w ≡ decimal n
@@ -52,15 +57,12 @@ decimal_is_word n h =
     low (suc n) = inr (omega arith)
 
 pub within_is : (low high at : ℕ) (o : Option ℕ) (n : ℕ) → within low high at o ≡ Ok n → (o ≡ Some n) × (low ≤ n) × (n ≤ high)
-within_is low high at None n e = let z : ◌≡◌ {A = ℕ} 0 1 = cc in absurd (omega arith)
+within_is low high at None n e = absurd (cc)
 within_is low high at (Some m) n e =
-    ⊎_elim
-    (λ t. let f = sym (cond-true (leb low m && leb m high) (Ok m) (Err (Range at)) t) ∙ e in
-    let same : m ≡ n = cc in
-    let p = and_parts (leb low m) (leb m high) t in
-    (ap (λ k. Some k) same, omega (arith, leb-true low m p.0), omega (arith, leb-true m high p.1)))
-    (λ t. let f = sym (cond-false (leb low m && leb m high) (Ok m) (Err (Range at)) t) ∙ e in let z : ◌≡◌ {A = ℕ} 0 1 = cc in absurd (omega arith))
-    (cases_Bool (leb low m && leb m high))
+    let p = granted_if (leb low m && leb m high) (Ok m) (Range at) n e in
+    let same : m ≡ n = cc p.1 in
+    let q = and_parts (leb low m) (leb m high) p.0 in
+    (ap (λ k. Some k) same, omega (arith, leb-true low m q.0), omega (arith, leb-true m high q.1))
 
 pub in_bounds : (low high at n : ℕ) → low ≤ n → n ≤ high → within low high at (Some n) ≡ Ok n
 in_bounds low high at n l h = cond-true (leb low n && leb n high) _ _ (and_from (leb low n) (leb n high) (le-leb low n l) (le-leb n high h))

@@ -1,35 +1,27 @@
 -- Arc words: `-` for no arc, or a cost and a travel with a slash between.
-use Rattle.std.specs.Prelude.{◌≡◌, ℕ, ◌+◌, ◌≤◌, Bool, cond, not, ◌&&◌, List, length, take, drop, Some, None, Ok, Err, Option, Result, ◌==◌, nat_le, slice_index}
-use Rattle.std.specs.Option.{option_map}
-use Rattle.std.specs.List.{prefix_len}
+use Rattle.std.specs.Prelude.{ℕ, Bool, cond, ◌&&◌, List, length, Some, None, Ok, Err, Option, Result, ◌==◌, nat_le, slice_index}
+use Rattle.std.specs.List.{before_first, after_first}
 use Rattle.routing.specs.declared.cells.Road.{Road}
 use Rattle.texts.specs.declared.faults.TextFault.{TextFault}
 use Rattle.texts.specs.declared.faults.TextFault.TheVariants.{Form, Range}
-use Rattle.texts.specs.declared.arcs.Arc.{Arc}
-use Rattle.texts.specs.Judging.{State, Judged, here, ◌>>=◌, word_due}
-use Rattle.texts.specs.Numbers.{numeral, beside}
+use Rattle.texts.specs.Judging.{State, Judged, ◌>>=◌, word_due, beside}
+use Rattle.texts.specs.Numbers.{numeral}
 
 -- the word of one byte
 abbrev pub is_byte : ℕ → List ℕ → Bool
 is_byte b w = length w == 1 && slice_index w 0 == b
 
-abbrev pub unslashed : ℕ → Bool
-unslashed b = not (b == 47)
-
--- the bytes before the first slash, and those after it
-abbrev pub before_slash : List ℕ → List ℕ
-before_slash w = take (prefix_len unslashed w) w
-
-abbrev pub after_slash : List ℕ → List ℕ
-after_slash w = drop (prefix_len unslashed w + 1) w
+abbrev pub is_slash : ℕ → Bool
+is_slash b = b == 47
 
 abbrev pub road_within : ℕ → Option ℕ → Option ℕ → Result (ℕ × ℕ) TextFault
 road_within at None travel = Err (Form at)
 road_within at (Some c) None = Err (Form at)
 road_within at (Some c) (Some t) = cond (nat_le c 1000000 && nat_le t 60000) (Ok (c, t)) (Err (Range at))
 
+-- the numbers before the first slash and after it
 abbrev pub road_at : ℕ → List ℕ → Result (ℕ × ℕ) TextFault
-road_at at w = road_within at (numeral (before_slash w)) (numeral (after_slash w))
+road_at at w = road_within at (numeral (before_first is_slash w)) (numeral (after_first is_slash w))
 
 -- a result by the fields of what it grants
 abbrev pub as_fields : {X Y : Type 0} → (X → Y) → Result X TextFault → Result Y TextFault
@@ -41,12 +33,8 @@ arc_at diagonal at w =
     cond (is_byte 45 w) (Ok None) (cond diagonal (Err (Form at)) (as_fields (λ a. Some a) (road_at at w)))
 
 -- the arc from i to j
-abbrev pub arc_due : ℕ → ℕ → ℕ → State → Judged (Option (ℕ × ℕ))
-arc_due end i j s = word_due end s >>= λ w s. beside (arc_at (i == j) w.0 w.1) s
+abbrev pub arc_due : ℕ → ℕ → State → Judged (Option (ℕ × ℕ))
+arc_due i j s = word_due s >>= λ w s. beside (arc_at (i == j) w.0 w.1) s
 
 abbrev pub road_fields : Road → ℕ × ℕ
 road_fields a = (a.cost, a.travel)
-
-abbrev pub ArcRead : List ℕ → Result Arc TextFault → Judged (Option (ℕ × ℕ)) → Type 0
-ArcRead text (Err f) j = j ≡ Err f
-ArcRead text (Ok a) j = (j ≡ Ok (option_map road_fields a.road, here text a.next)) × (a.next ≤ length text)

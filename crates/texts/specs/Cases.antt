@@ -5,8 +5,8 @@ use Rattle.routing.specs.declared.cells.Head.{Head}
 use Rattle.routing.specs.declared.cells.Place.{Place}
 use Rattle.routing.specs.declared.cells.Road.{Road}
 use Rattle.texts.specs.declared.faults.TextFault.{TextFault}
-use Rattle.texts.specs.declared.faults.TextFault.TheVariants.{Count, ShortTable}
-use Rattle.texts.specs.Judging.{State, Judged, here, ◌>>=◌}
+use Rattle.texts.specs.declared.faults.TextFault.TheVariants.{ShortTable}
+use Rattle.texts.specs.Judging.{State, Judged, start, ◌>>=◌, nothing_after}
 use Rattle.texts.specs.Arcs.{road_fields}
 use Rattle.texts.specs.Lines.{Heading, Stop, head_due, head_fields, place_fields}
 use Rattle.texts.specs.Tables.{places_due, rows_due}
@@ -22,23 +22,19 @@ abbrev pub side : Heading → ℕ
 side h = h.customers + 1
 
 -- the lines of a case
-abbrev pub case_due : ℕ → State → Judged Case
-case_due end s =
-    head_due end s >>= λ h s.
-    places_due end (side h) s >>= λ places s.
-    rows_due end (side h) s >>= λ arcs s.
+abbrev pub case_due : State → Judged Case
+case_due s =
+    head_due s >>= λ h s.
+    places_due (side h) s >>= λ places s.
+    rows_due (side h) s >>= λ arcs s.
     Ok (record { head = h; places = places; arcs = arcs }, s)
-
--- a byte after the last line is one too many
-abbrev pub nothing_after : ℕ → ℕ → Result (Unit {0}) TextFault
-nothing_after end at = cond (nat_lt at end) (Err (Count at)) (Ok tt)
 
 abbrev pub when : {X : Type 0} → Result (Unit {0}) TextFault → X → Result X TextFault
 when (Ok u) x = Ok x
 when (Err f) x = Err f
 
 unfoldable pub case_judged : List ℕ → Result Case TextFault
-case_judged text = case_due (length text) (here text 0) >>= λ c s. when (nothing_after (length text) s.0) c
+case_judged text = case_due (start text) >>= λ c s. when (nothing_after s) c
 
 -- the tables' lengths are looked at last
 abbrev pub fits_tables : ℕ → ℕ → Result Case TextFault → Result Case TextFault

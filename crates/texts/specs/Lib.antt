@@ -1,6 +1,7 @@
 pub mod Faults
 pub mod Tokens
 pub mod Judging
+pub mod Reading
 pub mod Numbers
 pub mod Arcs
 pub mod Lines

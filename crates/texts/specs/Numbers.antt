@@ -1,11 +1,10 @@
 -- Number words: which words they are, which numbers they write, and a number due within bounds.
-use Rattle.std.specs.Prelude.{◌≡◌, ℕ, ◌≤◌, Bool, cond, not, ◌&&◌, ◌||◌, List, length, Some, None, Ok, Err, Option, Result, ◌==◌, nat_le, slice_index}
+use Rattle.std.specs.Prelude.{ℕ, Bool, cond, not, ◌&&◌, ◌||◌, List, length, Some, None, Ok, Err, Option, Result, ◌==◌, nat_le, slice_index}
 use Rattle.std.specs.Str.Parse.{digits_value}
 use Rattle.std.specs.Str.{all_ascii_digits}
 use Rattle.texts.specs.declared.faults.TextFault.{TextFault}
 use Rattle.texts.specs.declared.faults.TextFault.TheVariants.{Form, Range}
-use Rattle.texts.specs.declared.numbers.Number.{Number}
-use Rattle.texts.specs.Judging.{State, Judged, here, ◌>>=◌, word_due}
+use Rattle.texts.specs.Judging.{State, Judged, ◌>>=◌, word_due, beside}
 
 -- 1 to 9 bytes, the first of several no 0
 abbrev pub shaped : List ℕ → Bool
@@ -22,15 +21,5 @@ abbrev pub within : ℕ → ℕ → ℕ → Option ℕ → Result ℕ TextFault
 within low high at None = Err (Form at)
 within low high at (Some n) = cond (nat_le low n && nat_le n high) (Ok n) (Err (Range at))
 
--- what a word turned out to be, and then the rest
-abbrev pub beside : {X : Type 0} → Result X TextFault → State → Judged X
-beside (Ok x) s = Ok (x, s)
-beside (Err f) s = Err f
-
-abbrev pub number_due : ℕ → ℕ → ℕ → State → Judged ℕ
-number_due end low high s = word_due end s >>= λ w s. beside (within low high w.0 (numeral w.1)) s
-
--- what was read is what the tokens are judged to be, within its bounds
-abbrev pub NumberRead : ℕ → ℕ → List ℕ → Result Number TextFault → Judged ℕ → Type 0
-NumberRead low high text (Err f) j = j ≡ Err f
-NumberRead low high text (Ok n) j = (j ≡ Ok (n.value, here text n.next)) × (n.next ≤ length text) × (low ≤ n.value) × (n.value ≤ high)
+abbrev pub number_due : ℕ → ℕ → State → Judged ℕ
+number_due low high s = word_due s >>= λ w s. beside (within low high w.0 (numeral w.1)) s

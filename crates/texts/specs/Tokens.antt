@@ -6,6 +6,9 @@ pub data Token : Type 0 where
   word : ℕ → List ℕ → Token
   feed : ℕ → Token
 
+abbrev pub space : ℕ → Bool
+space b = b == 32
+
 -- a space or a line feed; every other byte is a word's
 abbrev pub blank : ℕ → Bool
 blank b = b == 32 || b == 10

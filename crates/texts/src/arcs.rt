@@ -1,76 +1,67 @@
 // Arc words: `-`, or a cost and a travel with a slash between.
-ghost use Rattle.std.specs.Prelude.{◌≡◌, ◌≤◌, length};
-ghost use Rattle.std.specs.Option.{option_map};
-ghost use Rattle.std.specs.List.{prefix_len};
-ghost use Rattle.texts.specs.Arcs.{is_byte, unslashed, road_fields, as_fields, road_at, arc_at, arc_due, ArcRead};
-ghost use Rattle.texts.specs.Judging.{here};
+ghost use Rattle.std.specs.Prelude.{◌≡◌, [], ◌==◌, IfSome, option_map, position};
+ghost use Rattle.std.specs.List.{before_first, after_first};
+ghost use Rattle.texts.specs.Arcs.{is_byte, is_slash, road_fields, as_fields, road_at, arc_at, arc_due};
+ghost use Rattle.texts.specs.Reading.{state, judged};
 
 use crate::faults::TextFault;
 use crate::numbers::number_of;
-use crate::scan::{Word, next_word};
+use crate::reader::{Reader, Word};
 use routing::cells::Road;
 
-// An arc that was read, if it is there, and the offset after its word.
-#[derive(Clone, Copy)]
-pub struct Arc {
-    pub road: Option<Road>,
-    pub next: usize,
+fn slash(word: &[u8]) -> Option<usize>
+    ensures { result ≡ position is_slash word.now }
+{
+    word.iter().position(|b| *b == b'/')
 }
 
-pub(crate) fn is_byte(word: &[u8], b: u8) -> bool
-    ensures { result ≡ is_byte b word.now }
+// What stands before the first slash, and what after it.
+fn sides(word: &[u8]) -> Option<(&[u8], &[u8])>
+    ensures none { result ≡ None → after_first is_slash word.now ≡ [] }
+    ensures some { IfSome result (λ s. (s.0.now ≡ before_first is_slash word.now) × (s.1.now ≡ after_first is_slash word.now)) }
 {
-    word.len() == 1 && word[0] == b
+    let slash = slash(word)?;
+    Some((&word[..slash], &word[slash + 1..]))
 }
 
-// How many bytes stand before the first slash.
-fn slash(word: &[u8]) -> usize
-    ensures within { result ≤ length word.now }
-    ensures first { result ≡ prefix_len unslashed word.now }
-{
-    let mut at = 0;
-    while at < word.len() && word[at] != b'/' {
-        at += 1;
+impl Word<'_> {
+    // Whether the word is this one byte.
+    pub(crate) fn is_byte(self, byte: u8) -> bool
+        ensures { result ≡ is_byte byte self.entry.bytes.now }
+    {
+        self.bytes.len() == 1 && self.bytes[0] == byte
     }
-    at
+
+    // The cost and the travel that the word writes.
+    fn road(self) -> Result<Road, TextFault>
+        ensures { as_fields road_fields result ≡ road_at self.entry.at self.entry.bytes.now }
+    {
+        let form = TextFault::Form(self.at);
+        let (cost, travel) = sides(self.bytes).ok_or(form)?;
+        let cost = number_of(cost).ok_or(form)?;
+        let travel = number_of(travel).ok_or(form)?;
+        Road::new(cost, travel).ok_or(TextFault::Range(self.at))
+    }
+
+    // What the word says of an arc; on the diagonal there is none.
+    fn arc(self, diagonal: bool) -> Result<Option<Road>, TextFault>
+        ensures { as_fields (option_map road_fields) result ≡ arc_at diagonal self.entry.at self.entry.bytes.now }
+    {
+        if self.is_byte(b'-') {
+            return Ok(None);
+        }
+        if diagonal {
+            return Err(TextFault::Form(self.at));
+        }
+        self.road().map(Some)
+    }
 }
 
-// The cost and the travel that a word at an offset writes.
-fn road_at(word: &[u8], at: usize) -> Result<Road, TextFault>
-    ensures { as_fields road_fields result ≡ road_at at word.now }
-{
-    let cut = slash(word);
-    if cut == word.len() {
-        return Err(TextFault::Form(at));
+impl Reader<'_> {
+    // The line's next word, the arc from `i` to `j`.
+    pub(crate) fn next_arc(&mut self, i: usize, j: usize) -> Result<Option<Road>, TextFault>
+        ensures { judged (option_map road_fields) result self.new ≡ arc_due i j (state self.old) }
+    {
+        self.next_word()?.arc(i == j)
     }
-    let Some(cost) = number_of(&word[0..cut]) else {
-        return Err(TextFault::Form(at));
-    };
-    let Some(travel) = number_of(&word[cut + 1..]) else {
-        return Err(TextFault::Form(at));
-    };
-    Road::new(cost, travel).ok_or(TextFault::Range(at))
-}
-
-// What a word at an offset says of an arc; on the diagonal there is none.
-fn arc_at(word: &[u8], at: usize, diagonal: bool) -> Result<Option<Road>, TextFault>
-    ensures { as_fields (option_map road_fields) result ≡ arc_at diagonal at word.now }
-{
-    if is_byte(word, b'-') {
-        return Ok(None);
-    }
-    if diagonal {
-        return Err(TextFault::Form(at));
-    }
-    Ok(Some(road_at(word, at)?))
-}
-
-// The line's next word, the arc from `i` to `j`.
-pub(crate) fn next_arc(text: &[u8], at: usize, i: usize, j: usize) -> Result<Arc, TextFault>
-    requires { at ≤ length text.now }
-    ensures { ArcRead text.now result (arc_due (length text.now) i j (here text.now at)) }
-{
-    let Word { start, end } = next_word(text, at)?;
-    let road = arc_at(&text[start..end], start, i == j)?;
-    Ok(Arc { road, next: end })
 }

@@ -1,6 +1,8 @@
 // Why a text is refused, and where.
 ghost use Rattle.std.specs.Prelude.{◌≡◌};
-ghost use Rattle.texts.specs.Faults.{fault_number, fault_place};
+ghost use Rattle.texts.specs.Faults.{fault_number, fault_place, text_denial};
+
+use routing::denials::Denial;
 
 #[derive(Clone, Copy)]
 pub enum TextFault {
@@ -31,10 +33,16 @@ impl TextFault {
         ensures { result ≡ fault_place self.now }
     {
         match self {
-            TextFault::Form(at) => *at,
-            TextFault::Count(at) => *at,
-            TextFault::Range(at) => *at,
+            TextFault::Form(at) | TextFault::Count(at) | TextFault::Range(at) => *at,
             TextFault::ShortTable => 0,
         }
+    }
+}
+
+impl From<TextFault> for Denial {
+    ghost from_gives = { λ f r. r ≡ text_denial f };
+
+    fn from(fault: TextFault) -> Denial {
+        Denial::at(fault.number(), fault.place())
     }
 }

@@ -7,7 +7,7 @@ pub mod faults;
 mod lines;
 mod numbers;
 pub mod plans;
-mod scan;
+mod reader;
 mod tables;
 #[cfg(test)]
 mod tests;

@@ -9,17 +9,8 @@ use std::test::Fail;
 const TWO_STOPS: &[u8] =
     b"M 2 10 0 2\n0 0 100 0\n4 0 50 0\n5 0 50 0\n- 4/4 5/5\n4/4 - 3/3\n5/5 3/3 -\n";
 
-fn nowhere() -> Place {
-    Place {
-        load: 0,
-        opening: 0,
-        closing: 0,
-        service: 0,
-    }
-}
-
 fn case_fault(text: &[u8]) -> Option<TextFault> {
-    let mut places = [nowhere(); 3];
+    let mut places = [Place::BLANK; 3];
     let mut arcs: [Option<Road>; 9] = [None; 9];
     read_case(text, &mut places, &mut arcs).err()
 }
@@ -49,15 +40,15 @@ fn same_arc(rt: &impl Abort, arc: Option<Road>, cost: u32, travel: u32) -> Resul
 
 #[test]
 fn reads_two_stops(rt: HostRuntime) -> Result<(), Fail> {
-    let mut places = [nowhere(); 3];
+    let mut places = [Place::BLANK; 3];
     let mut arcs: [Option<Road>; 10] = [None; 10];
     let Ok(head) = read_case(TWO_STOPS, &mut places, &mut arcs) else {
         return Err(Fail::new("refused"));
     };
     assert_eq!(rt; head.customers, 2);
     assert_eq!(rt; head.capacity, 10);
-    assert_eq!(rt; head.least, 0);
-    assert_eq!(rt; head.most, 2);
+    assert_eq!(rt; head.fleet.least, 0);
+    assert_eq!(rt; head.fleet.most, 2);
     assert_eq!(rt; places[0].closing, 100);
     assert_eq!(rt; places[2].load, 5);
     assert!(rt; arcs[0].is_none());
@@ -79,7 +70,7 @@ fn refuses_cases(rt: HostRuntime) -> Result<(), Fail> {
         2,
         34,
     )?;
-    let mut places = [nowhere(); 2];
+    let mut places = [Place::BLANK; 2];
     let mut arcs: [Option<Road>; 9] = [None; 9];
     same_fault(
         &rt,

@@ -5,6 +5,7 @@ use files::reading::contents;
 use std::fs;
 use verdict::judging::judge;
 
+// As in the trials of two files: two programs of a few lines are plainer apart than over a library for both.
 fn judge_folder(rt: &HostRuntime, name: &str) -> anyhow::Result<()> {
     let case_path = format!(in rt.alloc(); "{name}/case.txt")?;
     let plan_path = format!(in rt.alloc(); "{name}/plan.txt")?;

@@ -6,11 +6,12 @@ use Rattle.std.proofs.lemmas.List.{take-append-drop}
 use Rattle.std.proofs.lemmas.Bool.{cond_both, or_parts, not-false, eqb-true, eqb-false, ltb-false}
 use Rattle.trees.specs.declared.faults.TreeFault.{TreeFault}
 use Rattle.trees.specs.declared.faults.TreeFault.TheVariants.{Head}
-use Rattle.trees.specs.declared.head.Kind.{Kind}
-use Rattle.trees.specs.declared.head.Kind.TheVariants.{Time, Load, TimeLoad}
+use Rattle.trees.specs.declared.kind.Kind.{Kind}
+use Rattle.trees.specs.declared.kind.Kind.TheVariants.{Time, Load, TimeLoad}
 use Rattle.trees.specs.declared.head.TreeHead.{TreeHead}
 use Rattle.trees.specs.Numbers.{short_at, short_bytes}
-use Rattle.trees.specs.Tree.{mark, kind_of, kinded, head_answer}
+use Rattle.trees.specs.Kinds.{kind_of}
+use Rattle.trees.specs.Tree.{mark, kinded, head_answer}
 use Rattle.trees.specs.Files.{kind_byte, head_bytes}
 use Rattle.trees.proofs.Bytes.{Byte, drop_two, short_here}
 

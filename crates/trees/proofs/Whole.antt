@@ -1,11 +1,11 @@
 -- A file is granted exactly when it is the one of a tree's records.
-use Rattle.std.proofs.Common.{◌≡◌, ℕ, zero, suc, ◌+◌, ◌*◌, ◌<◌, ◌≤◌, List, [], ◌++◌, length, get_or, drop, Some, None, Ok, Option, Result, sym, refl, ap, ◌∙◌, subst, arith, w8, Fits, Bor}
+use Rattle.std.proofs.Common.{◌≡◌, ℕ, zero, suc, ◌+◌, ◌*◌, ◌<◌, ◌≤◌, List, [], ◌++◌, length, get_or, drop, Ok, Result, sym, ap, ◌∙◌, subst, arith, w8, Fits}
 use Rattle.std.specs.List.{AllByRecursion}
 use Rattle.std.proofs.ByRecursion.{All-get_or, All-from_get_or}
 use Rattle.trees.specs.declared.faults.TreeFault.{TreeFault}
-use Rattle.trees.specs.declared.head.Kind.{Kind}
+use Rattle.trees.specs.declared.kind.Kind.{Kind}
 use Rattle.trees.specs.declared.head.TreeHead.{TreeHead}
-use Rattle.trees.specs.Tree.{after, head_answer, pairs_answer, tree_answer, as_found, record_answer}
+use Rattle.trees.specs.Tree.{after, head_answer, pairs_answer, tree_answer, record_answer}
 use Rattle.trees.specs.Files.{head_bytes, directory, contents, tree_bytes, Records, Found, Recorded, start_of, ReadsTree}
 use Rattle.trees.proofs.Bytes.{Byte}
 use Rattle.trees.proofs.Granted.{ok_after, parts, length_parts, parts_filled, parts_contents, parts_directory}
@@ -68,12 +68,3 @@ reads_tree bytes n r typed e =
       granted_is_tree = λ h ok. let t = is_tree bytes n h all (sym e ∙ ok) in (t.rs, t.fit, t.count, t.is, found bytes n h.kind t.rs t.is);
       granted_has_records = λ h ok. recorded bytes n h (is_tree bytes n h all (sym e ∙ ok));
     }
-
--- where record k is recorded, what answers as it is found is a part with a byte or more, within the file
-pub found_part : (bytes : List ℕ) (k : ℕ) (r : Option (ℕ × Bor (List ℕ))) → as_found r ≡ record_answer bytes k → Recorded bytes k → (p : ℕ × Bor (List ℕ)) × (r ≡ Some p) × (1 ≤ length p.1.now) × (p.0 + length p.1.now ≤ length bytes)
-found_part bytes k None e it = absurd (let z : ◌≡◌ {A = ℕ} 0 1 = cc (e, it.2) in omega arith)
-found_part bytes k (Some p) e it =
-    let same : ◌≡◌ {A = ℕ × List ℕ} (p.0, p.1.now) (it.0, it.1) = cc (e, it.2) in
-    let at : p.0 ≡ it.0 = ap (λ q. q.0) same in
-    let part : p.1.now ≡ it.1 = ap (λ q. q.1) same in
-    (p, refl, omega (arith, it.3, ap length part), omega (arith, it.4, ap length part))

@@ -1,10 +1,11 @@
 -- The file of a tree's records is granted, and each record is found by its pair.
 use Rattle.std.proofs.Common.{◌≡◌, ℕ, ◌+◌, ◌*◌, ◌<◌, ◌≤◌, List, [], ◌∷◌, ◌++◌, length, get_or, take, drop, Some, Ok, refl, ap, ◌∙◌, arith}
 use Rattle.std.proofs.lemmas.Bool.{cond-true, cond-false, and_from, or_from, eq-eqb, ne_eqb, lt-ltb, le-ltb, le-leb, not_from_true}
-use Rattle.trees.specs.declared.head.Kind.{Kind}
-use Rattle.trees.specs.declared.head.Kind.TheVariants.{Time, Load, TimeLoad}
+use Rattle.trees.specs.declared.kind.Kind.{Kind}
+use Rattle.trees.specs.declared.kind.Kind.TheVariants.{Time, Load, TimeLoad}
 use Rattle.trees.specs.Numbers.{short_at}
-use Rattle.trees.specs.Tree.{mark, after, kind_of, kinded, head_answer, pairs_answer, tree_answer, offset_of, size_of, record_answer}
+use Rattle.trees.specs.Kinds.{kind_of}
+use Rattle.trees.specs.Tree.{mark, after, kinded, head_answer, pairs_answer, tree_answer, offset_of, size_of, record_answer}
 use Rattle.trees.specs.Files.{kind_byte, head_bytes, directory, contents, tree_bytes, Records, start_of, Found}
 use Rattle.trees.proofs.Bytes.{short_there}
 use Rattle.trees.proofs.Stand.{Stands, Left, left_at, pairs_granted}

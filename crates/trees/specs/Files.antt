@@ -2,8 +2,8 @@
 use Rattle.std.specs.Prelude.{◌≡◌, ℕ, ◌+◌, ◌*◌, ◌<◌, ◌≤◌, List, [], ◌∷◌, ◌++◌, length, take, Some, Ok, Result, slice_index_or}
 use Rattle.std.specs.List.{flat_map, AllByRecursion}
 use Rattle.trees.specs.declared.faults.TreeFault.{TreeFault}
-use Rattle.trees.specs.declared.head.Kind.{Kind}
-use Rattle.trees.specs.declared.head.Kind.TheVariants.{Time, Load, TimeLoad}
+use Rattle.trees.specs.declared.kind.Kind.{Kind}
+use Rattle.trees.specs.declared.kind.Kind.TheVariants.{Time, Load, TimeLoad}
 use Rattle.trees.specs.declared.head.TreeHead.{TreeHead}
 use Rattle.trees.specs.Numbers.{short_bytes, word_bytes}
 use Rattle.trees.specs.Tree.{mark, record_answer}

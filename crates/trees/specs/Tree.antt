@@ -1,20 +1,17 @@
 -- The answer due to a tree file: its head, or the first fault in the order of the rules.
 use Rattle.std.specs.Prelude.{ℕ, zero, suc, ◌+◌, ◌*◌, Bool, cond, not, ◌&&◌, ◌||◌, List, [], ◌∷◌, length, take, drop, Some, None, Ok, Err, Option, Result, ◌==◌, nat_le, nat_lt, slice_index}
-use Rattle.std.specs.Borrow.{Bor}
 use Rattle.std.specs.Str.{bytes_eq}
 use Rattle.trees.specs.declared.faults.TreeFault.{TreeFault}
 use Rattle.trees.specs.declared.faults.TreeFault.TheVariants.{Mark, Head, Pair}
-use Rattle.trees.specs.declared.head.Kind.{Kind}
-use Rattle.trees.specs.declared.head.Kind.TheVariants.{Time, Load, TimeLoad}
+use Rattle.trees.specs.declared.kind.Kind.{Kind}
 use Rattle.trees.specs.declared.head.TreeHead.{TreeHead}
+use Rattle.trees.specs.declared.records.Record.{Record}
+use Rattle.trees.specs.Kinds.{kind_of}
 use Rattle.trees.specs.Numbers.{short_at, word_at}
 
 -- the letters VRPC
 abbrev pub mark : List ℕ
 mark = 86 ∷ 82 ∷ 80 ∷ 67 ∷ []
-
-abbrev pub kind_of : ℕ → Option Kind
-kind_of b = cond (b == 1) (Some Time) (cond (b == 2) (Some Load) (cond (b == 3) (Some TimeLoad) None))
 
 abbrev pub after : {X Y : Type 0} → Result X TreeFault → (X → Result Y TreeFault) → Result Y TreeFault
 after (Err f) go = Err f
@@ -54,9 +51,9 @@ pairs_answer bytes k from (suc more) = after (pair_answer bytes k from (more == 
 abbrev pub tree_answer : List ℕ → ℕ → Result TreeHead TreeFault
 tree_answer bytes n = after (head_answer bytes n) λ h. after (pairs_answer bytes 0 (8 + 8 * h.count) h.count) λ _. Ok h
 
-abbrev pub as_found : Option (ℕ × Bor (List ℕ)) → Option (ℕ × List ℕ)
+abbrev pub as_found : Option Record → Option (ℕ × List ℕ)
 as_found None = None
-as_found (Some p) = Some (p.0, p.1.now)
+as_found (Some r) = Some (r.offset, r.bytes.now)
 
 -- the offset and the bytes of record k, where the directory has pair k and its part lies within the file
 abbrev pub record_answer : List ℕ → ℕ → Option (ℕ × List ℕ)

@@ -14,21 +14,15 @@ pub enum TreeFault {
     Pair { at: usize },
 }
 
-impl TreeFault {
-    // The number, arc and place that are handed back.
-    pub fn denial(&self) -> Denial
-        ensures { result ≡ tree_denial self.now }
-    {
-        let (number, place) = match *self {
-            TreeFault::Mark => (5, 0),
-            TreeFault::Head { at } => (6, at),
-            TreeFault::Pair { at } => (7, at),
-        };
-        Denial {
-            number,
-            from: 0,
-            to: 0,
-            place,
+// The number, arc and place that are handed back.
+impl From<TreeFault> for Denial {
+    ghost from_gives = { λ f r. r ≡ tree_denial f };
+
+    fn from(fault: TreeFault) -> Denial {
+        match fault {
+            TreeFault::Mark => Denial::at(5, 0),
+            TreeFault::Head { at } => Denial::at(6, at),
+            TreeFault::Pair { at } => Denial::at(7, at),
         }
     }
 }

@@ -1,46 +1,27 @@
 // The head of a tree file, read with its directory.
-ghost use Rattle.std.specs.Prelude.{◌≡◌, ◌≤◌, IfOk};
-ghost use Rattle.trees.specs.Tree.{kind_of, head_answer, tree_answer};
+ghost use Rattle.std.specs.Prelude.{◌≡◌};
+ghost use Rattle.trees.specs.Tree.{head_answer, tree_answer};
 ghost use Rattle.trees.specs.Files.{ReadsTree};
 
 use crate::faults::TreeFault;
+use crate::kind::Kind;
 use crate::numbers::short_at;
 use crate::pairs::judge_pairs;
-
-// What the tree's boxes measure.
-#[derive(Clone, Copy)]
-pub enum Kind {
-    Time,
-    Load,
-    TimeLoad,
-}
 
 #[derive(Clone, Copy)]
 pub struct TreeHead {
     pub kind: Kind,
-    pub count: usize,
-}
-
-fn kind_of(byte: u8) -> Option<Kind>
-    ensures { result ≡ kind_of byte }
-{
-    match byte {
-        1 => Some(Kind::Time),
-        2 => Some(Kind::Load),
-        3 => Some(Kind::TimeLoad),
-        _ => None,
-    }
+    pub count: u16,
 }
 
 // The mark, the kind, the number of customers and the count of records.
 fn read_head(bytes: &[u8], customers: u8) -> Result<TreeHead, TreeFault>
-    ensures value { result ≡ head_answer bytes.now customers }
-    ensures counted { IfOk result (λ h. h.count ≤ 2000) }
+    ensures { result ≡ head_answer bytes.now customers }
 {
     if bytes.len() < 8 || &bytes[0..4] != b"VRPC".as_slice() {
         return Err(TreeFault::Mark);
     }
-    let Some(kind) = kind_of(bytes[4]) else {
+    let Ok(kind) = Kind::try_from(bytes[4]) else {
         return Err(TreeFault::Head { at: 4 });
     };
     if bytes[5] != customers {

@@ -3,6 +3,7 @@
 
 pub mod faults;
 pub mod head;
+pub mod kind;
 mod numbers;
 mod pairs;
 pub mod records;
@@ -11,6 +12,7 @@ pub mod records;
 mod tests {
     use crate::head::read_tree;
     use crate::records::record_at;
+    use routing::denials::Denial;
     use std::test::Fail;
 
     // Three customers, measured by time; one record of 97 bytes at offset 16.
@@ -23,8 +25,11 @@ mod tests {
     // The number and the place of a denial; 0 and the count where the file is granted.
     fn told(file: &[u8], customers: u8) -> (u8, usize) {
         match read_tree(file, customers) {
-            Ok(head) => (0, head.count),
-            Err(fault) => (fault.denial().number, fault.denial().place),
+            Ok(head) => (0, head.count as usize),
+            Err(fault) => {
+                let denial = Denial::from(fault);
+                (denial.number, denial.place)
+            }
         }
     }
 
@@ -32,8 +37,8 @@ mod tests {
     fn reads_one_record(rt: HostRuntime) -> Result<(), Fail> {
         let file = one_record();
         assert_eq!(rt; told(&file, 3), (0, 1));
-        let (offset, record) = record_at(&file, 0).ok_or("no record 0")?;
-        assert_eq!(rt; (offset, record.len()), (16, 97));
+        let record = record_at(&file, 0).ok_or("no record 0")?;
+        assert_eq!(rt; (record.offset, record.bytes.len()), (16, 97));
         assert!(rt; record_at(&file, 1).is_none(), "one record only");
         Ok(())
     }

@@ -1,21 +1,21 @@
 // Numbers in a file, the low byte first.
-ghost use Rattle.std.specs.Prelude.{◌≡◌, ◌+◌, ◌^◌, ◌<◌, ◌≤◌, length};
+ghost use Rattle.std.specs.Prelude.{◌≡◌, ◌+◌, ◌≤◌, length};
 ghost use Rattle.trees.specs.Numbers.{short_at, word_at};
 
-// Two bytes.
-pub(crate) fn short_at(bytes: &[u8], at: usize) -> usize
+use byteorder::{ByteOrder, LittleEndian};
+
+// Two bytes: one call of the library's reader, as leaves read theirs.
+pub(crate) fn short_at(bytes: &[u8], at: usize) -> u16
     requires { at + 2 ≤ length bytes.now }
-    ensures value { result ≡ short_at bytes.now at }
-    ensures bound { result < 2 ^ 16 }
+    ensures { result ≡ short_at bytes.now at }
 {
-    bytes[at] as usize + 256 * bytes[at + 1] as usize
+    LittleEndian::read_u16(&bytes[at..])
 }
 
 // Four bytes.
-pub(crate) fn word_at(bytes: &[u8], at: usize) -> usize
+pub(crate) fn word_at(bytes: &[u8], at: usize) -> u32
     requires { at + 4 ≤ length bytes.now }
-    ensures value { result ≡ word_at bytes.now at }
-    ensures bound { result < 2 ^ 32 }
+    ensures { result ≡ word_at bytes.now at }
 {
-    short_at(bytes, at) + 65_536 * short_at(bytes, at + 2)
+    LittleEndian::read_u32(&bytes[at..])
 }

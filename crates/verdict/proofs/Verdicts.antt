@@ -9,22 +9,17 @@ use Rattle.measures.specs.Pair.{pair_measuring}
 use Rattle.checking.specs.declared.calls.Grant.{Grant}
 use Rattle.checking.specs.declared.calls.Standing.{Standing}
 use Rattle.checking.specs.declared.checks.Check.{Check}
-use Rattle.checking.specs.declared.faults.CheckFault.{CheckFault}
 use Rattle.checking.specs.Calls.{State, Attempt, opening, present, standing, attempt, after, answer_of}
 use Rattle.checking.specs.States.{network_of, state_of, Does}
 use Rattle.trees.specs.declared.faults.TreeFault.{TreeFault}
-use Rattle.trees.specs.declared.head.Kind.{Kind}
-use Rattle.trees.specs.declared.head.Kind.TheVariants.{Time, Load, TimeLoad}
+use Rattle.trees.specs.declared.kind.Kind.{Kind}
+use Rattle.trees.specs.declared.kind.Kind.TheVariants.{Time, Load, TimeLoad}
 use Rattle.trees.specs.declared.head.TreeHead.{TreeHead}
 use Rattle.trees.specs.Tree.{tree_answer, record_answer}
 use Rattle.verdict.specs.declared.faults.JudgeFault.{JudgeFault}
-use Rattle.verdict.specs.declared.faults.JudgeFault.TheVariants.{CaseRefused, PlanRefused, NotPresented, TreeRefused, AtNode}
+use Rattle.verdict.specs.declared.faults.JudgeFault.TheVariants.{Refused, NotPresented, TreeRefused, AtNode}
 use Rattle.verdict.specs.Judging.{presented, tree_read, walk_by, judged, TextsRead, FilesJudged}
 use Rattle.verdict.specs.Nodes.{record_request, node_answer, node_taken, next, walk, Reached}
-
-denied_first : (t : Attempt Priced) (f : CheckFault) → Err f ≡ answer_of t → presented t ≡ Err (NotPresented f)
-denied_first (Ok a) f e = absurd (let z : ◌≡◌ {A = ℕ} 0 1 = cc in omega arith)
-denied_first (Err g) f e = ap (λ x. Err (NotPresented x)) (let same : g ≡ f = cc in same)
 
 granted_first : (s : State) (t : Attempt Priced) (p : Priced) → Ok p ≡ answer_of t → presented t ≡ Ok (after s t)
 granted_first s (Ok a) p e = refl
@@ -45,16 +40,10 @@ module _ (m : Meaning) (listing tree : List ℕ) where
   abbrev headed : State → Result Standing JudgeFault
   headed s = next (tree_read (tree_answer tree m.customers)) λ h. asked s h
 
-  pub ends_at_present : (s : State) (f : CheckFault) → s ≡ opening → Err f ≡ answer_of (present m s listing) → judged m listing tree ≡ Err (NotPresented f)
-  ends_at_present s f start e = ap (λ r. next r headed) (denied_first (present m opening listing) f (e ∙ ap (λ x. answer_of (present m x listing)) start))
-
   module _ (s now : State) (start : s ≡ opening) (p : Priced) (e : Ok p ≡ answer_of (present m s listing)) (then : now ≡ after s (present m s listing)) (n : ℕ) (n_is : n ≡ m.customers) where
     first : judged m listing tree ≡ headed now
     first =
         ap (λ r. next r headed) (granted_first opening (present m opening listing) p (e ∙ ap (λ x. answer_of (present m x listing)) start) ∙ ap Ok (sym (then ∙ ap (λ x. after x (present m x listing)) start)))
-
-    pub ends_at_head : (f : TreeFault) → Err f ≡ tree_answer tree n → judged m listing tree ≡ Err (TreeRefused f)
-    ends_at_head f h = first ∙ ap (λ r. next (tree_read r) λ h. asked now h) (sym (h ∙ ap (tree_answer tree) n_is))
 
     pub ends_at_walk : (h : TreeHead) (end : State) (r : Result (Unit {0}) JudgeFault) → Ok h ≡ tree_answer tree n → Reached end r (walk_by h.kind m tree now h.count) → judged m listing tree ≡ next r (λ _. Ok (standing end))
     ends_at_walk h end (Ok u) e reached =
@@ -72,8 +61,7 @@ module _ {N : Type 0} (meaning : N → Meaning) (network : N) (c0 c1 c2 : Check 
 
 -- a verdict over a network blames no text
 abbrev NoText : JudgeFault → Type 0
-NoText (CaseRefused f) = ⊥
-NoText (PlanRefused f) = ⊥
+NoText (Refused f) = ⊥
 NoText (NotPresented f) = Unit {0}
 NoText (TreeRefused f) = Unit {0}
 NoText (AtNode f) = Unit {0}
@@ -121,8 +109,7 @@ judged_fine m listing tree =
 
 pub both_read : (case plan tree : List ℕ) (r : Result Standing JudgeFault) (m : Meaning) (listing : List ℕ) → r ≡ judged m listing tree → TextsRead case plan tree r → FilesJudged case plan tree r
 both_read case plan tree (Ok standing) m listing e read = read
-both_read case plan tree (Err (CaseRefused f)) m listing e read = absurd (subst Fine (sym e) (judged_fine m listing tree))
-both_read case plan tree (Err (PlanRefused f)) m listing e read = absurd (subst Fine (sym e) (judged_fine m listing tree))
+both_read case plan tree (Err (Refused f)) m listing e read = absurd (subst Fine (sym e) (judged_fine m listing tree))
 both_read case plan tree (Err (NotPresented f)) m listing e read = read
 both_read case plan tree (Err (TreeRefused f)) m listing e read = read
 both_read case plan tree (Err (AtNode f)) m listing e read = read

@@ -17,8 +17,8 @@ use Rattle.checking.specs.Calls.{State, Attempt, opening, present, standing, pre
 use Rattle.checking.specs.Promise.{Cheapest}
 use Rattle.checking.proofs.Soundness.{Sound, opening_sound, step_sound, proved_true, after_granted}
 use Rattle.checking.proofs.Leaves.{answer_bounds}
-use Rattle.trees.specs.declared.head.Kind.{Kind}
-use Rattle.trees.specs.declared.head.Kind.TheVariants.{Time, Load, TimeLoad}
+use Rattle.trees.specs.declared.kind.Kind.{Kind}
+use Rattle.trees.specs.declared.kind.Kind.TheVariants.{Time, Load, TimeLoad}
 use Rattle.trees.specs.Tree.{tree_answer, record_answer}
 use Rattle.verdict.specs.declared.faults.JudgeFault.{JudgeFault}
 use Rattle.verdict.specs.Judging.{presented, tree_read, walk_by, judged}

@@ -2,10 +2,8 @@
 use Rattle.std.specs.Prelude.{◌≡◌, ℕ, List, Ok, Err, Result}
 use Rattle.routing.specs.Network.{Meaning}
 use Rattle.replay.specs.declared.vans.Priced.{Priced}
-use Rattle.texts.specs.Cases.{case_answer}
-use Rattle.texts.specs.Plans.{plan_answer}
 use Rattle.texts.specs.Written.{PlanText}
-use Rattle.files.specs.Pricing.{CaseNetwork}
+use Rattle.files.specs.Reading.{CaseNetwork, Denied}
 use Rattle.files.specs.Judging.{counted}
 use Rattle.files.specs.declared.lines.Line.{Line}
 use Rattle.measures.specs.Time.{time_measuring}
@@ -16,12 +14,12 @@ use Rattle.checking.specs.declared.calls.Standing.TheVariants.{Proved}
 use Rattle.checking.specs.Calls.{State, Attempt, opening, present, standing}
 use Rattle.checking.specs.Promise.{Cheapest}
 use Rattle.trees.specs.declared.faults.TreeFault.{TreeFault}
-use Rattle.trees.specs.declared.head.Kind.{Kind}
-use Rattle.trees.specs.declared.head.Kind.TheVariants.{Time, Load, TimeLoad}
+use Rattle.trees.specs.declared.kind.Kind.{Kind}
+use Rattle.trees.specs.declared.kind.Kind.TheVariants.{Time, Load, TimeLoad}
 use Rattle.trees.specs.declared.head.TreeHead.{TreeHead}
 use Rattle.trees.specs.Tree.{tree_answer}
 use Rattle.verdict.specs.declared.faults.JudgeFault.{JudgeFault}
-use Rattle.verdict.specs.declared.faults.JudgeFault.TheVariants.{CaseRefused, PlanRefused, NotPresented, TreeRefused, AtNode}
+use Rattle.verdict.specs.declared.faults.JudgeFault.TheVariants.{Refused, NotPresented, TreeRefused, AtNode}
 use Rattle.verdict.specs.Lines.{verdict_line}
 use Rattle.verdict.specs.Nodes.{next, walk}
 
@@ -59,8 +57,7 @@ pub record TextsRead (case plan tree : List ℕ) (r : Result Standing JudgeFault
 
 abbrev pub FilesJudged : List ℕ → List ℕ → List ℕ → Result Standing JudgeFault → Type 0
 FilesJudged case plan tree (Ok standing) = TextsRead case plan tree (Ok standing)
-FilesJudged case plan tree (Err (CaseRefused f)) = case_answer case 61 3721 ≡ Err f
-FilesJudged case plan tree (Err (PlanRefused f)) = (m : Meaning) × CaseNetwork case m × (plan_answer plan 120 ≡ Err f)
+FilesJudged case plan tree (Err (Refused f)) = Denied case plan f
 FilesJudged case plan tree (Err (NotPresented f)) = TextsRead case plan tree (Err (NotPresented f))
 FilesJudged case plan tree (Err (TreeRefused f)) = TextsRead case plan tree (Err (TreeRefused f))
 FilesJudged case plan tree (Err (AtNode n)) = TextsRead case plan tree (Err (AtNode n))

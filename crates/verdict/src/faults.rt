@@ -1,12 +1,11 @@
 // Which file a fault is found in, with the fault carried whole.
 ghost use Rattle.std.specs.Prelude.{◌≡◌};
-ghost use Rattle.verdict.specs.declared.faults.JudgeFault.TheVariants.{NotPresented, TreeRefused, AtNode};
-ghost use Rattle.verdict.specs.Faults.{judge_denial, judge_part, judge_node};
+ghost use Rattle.verdict.specs.declared.faults.JudgeFault.TheVariants.{Refused, NotPresented, TreeRefused, AtNode};
+ghost use Rattle.verdict.specs.Faults.{node_denial, judge_denial, judge_part, judge_node};
 
 use checking::faults::CheckFault;
-use files::faults::{Part, text_denial};
+use files::faults::{Part, RefusedText};
 use routing::denials::Denial;
-use texts::faults::TextFault;
 use trees::faults::TreeFault;
 
 // A record's fault: which record it is, where it begins in the file, and what was denied.
@@ -19,16 +18,23 @@ pub struct NodeFault {
 
 #[derive(Clone, Copy)]
 pub enum JudgeFault {
-    // The case text is refused.
-    CaseRefused(TextFault),
-    // The plan text is refused.
-    PlanRefused(TextFault),
+    // The case text or the plan text is refused.
+    Refused(RefusedText),
     // The plan is not granted.
     NotPresented(CheckFault),
     // The tree file's head or directory is refused.
     TreeRefused(TreeFault),
     // A record of the tree is denied.
     AtNode(NodeFault),
+}
+
+// By hand, since a clause has to name the fault, and a derived `From` says nothing of it.
+impl From<RefusedText> for JudgeFault {
+    ghost from_gives = { λ f r. r ≡ Refused f };
+
+    fn from(fault: RefusedText) -> JudgeFault {
+        JudgeFault::Refused(fault)
+    }
 }
 
 impl From<CheckFault> for JudgeFault {
@@ -55,34 +61,39 @@ impl From<NodeFault> for JudgeFault {
     }
 }
 
-impl JudgeFault {
-    // The number, arc and place that are handed back; a record's offset is added to its place.
-    pub fn denial(&self) -> Denial
-        ensures { result ≡ judge_denial self.now }
-    {
-        match self {
-            JudgeFault::CaseRefused(fault) => text_denial(*fault),
-            JudgeFault::PlanRefused(fault) => text_denial(*fault),
-            JudgeFault::NotPresented(fault) => fault.denial(),
-            JudgeFault::TreeRefused(fault) => fault.denial(),
-            JudgeFault::AtNode(at) => {
-                let denial = at.fault.denial();
-                Denial {
-                    number: denial.number,
-                    from: denial.from,
-                    to: denial.to,
-                    place: at.offset.saturating_add(denial.place),
-                }
-            }
+// A record's offset is added to its place.
+impl From<NodeFault> for Denial {
+    ghost from_gives = { λ f r. r ≡ node_denial f };
+
+    fn from(at: NodeFault) -> Denial {
+        let denial = Denial::from(at.fault);
+        Denial {
+            place: at.offset.saturating_add(denial.place),
+            ..denial
         }
     }
+}
 
+// The number, arc and place that are handed back.
+impl From<JudgeFault> for Denial {
+    ghost from_gives = { λ f r. r ≡ judge_denial f };
+
+    fn from(fault: JudgeFault) -> Denial {
+        match fault {
+            JudgeFault::Refused(fault) => Denial::from(fault),
+            JudgeFault::NotPresented(fault) => Denial::from(fault),
+            JudgeFault::TreeRefused(fault) => Denial::from(fault),
+            JudgeFault::AtNode(fault) => Denial::from(fault),
+        }
+    }
+}
+
+impl JudgeFault {
     pub fn part(&self) -> Part
         ensures { result ≡ judge_part self.now }
     {
         match self {
-            JudgeFault::CaseRefused(_) => Part::Case,
-            JudgeFault::PlanRefused(_) => Part::Plan,
+            JudgeFault::Refused(fault) => fault.part(),
             JudgeFault::NotPresented(_) => Part::Plan,
             JudgeFault::TreeRefused(_) => Part::Tree,
             JudgeFault::AtNode(_) => Part::Tree,

@@ -1,6 +1,7 @@
 // The verdict on three files, and its line.
-ghost use Rattle.std.specs.Prelude.{◌≡◌, ℕ, ◌≤◌, length, Ok};
+ghost use Rattle.std.specs.Prelude.{◌≡◌, ℕ, List, Ok};
 ghost use Rattle.checking.specs.States.{network_of, state_of};
+ghost use Rattle.files.specs.Reading.{Granted};
 ghost use Rattle.verdict.specs.Judging.{walk_by, judged, FilesJudged, LineFor};
 ghost use Rattle.checking.specs.Promise.{Cheapest};
 ghost use Rattle.checking.specs.declared.calls.Standing.TheVariants.{Proved};
@@ -11,26 +12,23 @@ use crate::faults::JudgeFault;
 use crate::nodes::take_nodes;
 use checking::calls::Standing;
 use checking::checks::Check;
+use files::held::Texts;
 use files::judging::counted_bytes;
 use files::lines::Line;
 use measures::load::Load;
 use measures::pair::Pair;
 use measures::time::Time;
-use routing::cells::{Place, Road};
+use routing::denials::Denial;
 use routing::networks::Network;
-use routing::tables::TableNetwork;
-use texts::cases::read_case;
-use texts::faults::TextFault;
-use texts::plans::read_plan;
-use trees::head::{Kind, TreeHead, read_tree};
+use trees::head::{TreeHead, read_tree};
+use trees::kind::Kind;
 
-// The records, by the measure that the head names.
+// The records, by the measure that the head names: each has a state of its own type, so no `dyn` serves.
 fn take_tree<N: Network>(
     check: &mut Check<N>,
     head: TreeHead,
     tree: &[u8],
 ) -> Result<(), JudgeFault>
-    requires { head.count ≤ 2000 }
     ensures network { network_of check.new ≡ network_of check.old }
     ensures state { Reached (state_of check.new) result (walk_by head.kind (N.Network.meaning (network_of check.old)) tree.now (state_of check.old) head.count) }
 {
@@ -67,46 +65,19 @@ pub(crate) fn judge_tree<N: Network + Drop>(
     Ok(check.ask())
 }
 
-// The same from the three files, over tables and a list that are long enough for any case and any plan.
-fn judge_over(
-    case: &[u8],
-    plan: &[u8],
-    tree: &[u8],
-    places: &mut [Place],
-    arcs: &mut [Option<Road>],
-    listing: &mut [u8],
-) -> Result<Standing, JudgeFault>
-    requires { (length places.old ≡ 61) × ((length arcs.old ≡ 3721) × (length listing.old ≡ 120)) }
-    ensures { FilesJudged case.now plan.now tree.now result }
+// The verdict on a plan of its case, whatever the texts were.
+fn judge_read(texts: &Texts, tree: &[u8]) -> Result<Standing, JudgeFault>
+    ensures { (case plan : List ℕ) → Granted case plan texts.now → FilesJudged case plan tree.now result }
 {
-    let head = match read_case(case, places, arcs) {
-        Ok(head) => head,
-        Err(fault) => return Err(JudgeFault::CaseRefused(fault)),
-    };
-    let count = match read_plan(plan, listing) {
-        Ok(count) => count,
-        Err(fault) => return Err(JudgeFault::PlanRefused(fault)),
-    };
-    let Some(network) = TableNetwork::new(head, places, arcs) else {
-        return Err(JudgeFault::CaseRefused(TextFault::ShortTable));
-    };
-    judge_tree(network, &listing[0..count], tree)
+    judge_tree(texts.network(), texts.listing(), tree)
 }
 
 // The verdict on a case, a plan and a tree.
 pub fn judge_files(case: &[u8], plan: &[u8], tree: &[u8]) -> Result<Standing, JudgeFault>
     ensures { FilesJudged case.now plan.now tree.now result }
 {
-    let nowhere = Place {
-        load: 0,
-        opening: 0,
-        closing: 0,
-        service: 0,
-    };
-    let mut places = [nowhere; 61];
-    let mut arcs: [Option<Road>; 3721] = [None; 3721];
-    let mut listing = [0; 120];
-    judge_over(case, plan, tree, &mut places, &mut arcs, &mut listing)
+    let texts = Texts::read(case, plan)?;
+    judge_read(&texts, tree)
 }
 
 // The line of a verdict.
@@ -116,19 +87,7 @@ pub fn line_for(verdict: Result<Standing, JudgeFault>) -> Line
     match verdict {
         Ok(Standing::Proved { cost }) => Line::Optimal { cost },
         Ok(Standing::Open { decisions }) => Line::Open { decisions },
-        Err(fault) => {
-            let denial = fault.denial();
-            let part = fault.part();
-            let node = fault.node();
-            Line::Fault {
-                number: denial.number,
-                part,
-                node,
-                from: denial.from,
-                to: denial.to,
-                place: denial.place,
-            }
-        }
+        Err(fault) => Line::fault(fault.part(), fault.node(), Denial::from(fault)),
     }
 }
 

@@ -12,7 +12,7 @@ use checking::checks::Check;
 use measures::measure::Measure;
 use routing::networks::Network;
 use trees::faults::TreeFault;
-use trees::records::record_at;
+use trees::records::{Record, record_at};
 
 // A record as a call: a leaf by its letter, any other as a fork.
 fn record_call(bytes: &[u8]) -> Call<'_>
@@ -29,38 +29,37 @@ fn take_record<N: Network, M: Measure>(
     check: &mut Check<N>,
     measure: &M,
     node: usize,
-    offset: usize,
-    bytes: &[u8],
+    found: Record<'_>,
 ) -> Result<(), NodeFault>
     ensures network { network_of check.new ≡ network_of check.old }
-    ensures state { Taken node offset (state_of check.new) result (attempt (M.Measure.meaning measure.now) (N.Network.meaning (network_of check.old)) (state_of check.old) (record_request bytes.now)) }
+    ensures state { Taken node found.entry.offset (state_of check.new) result (attempt (M.Measure.meaning measure.now) (N.Network.meaning (network_of check.old)) (state_of check.old) (record_request found.entry.bytes.now)) }
 {
-    match check.take(measure, record_call(bytes)) {
-        Ok(_) => Ok(()),
-        Err(fault) => Err(NodeFault {
+    let offset = found.offset;
+    check
+        .take(measure, record_call(found.bytes))
+        .map_err(|fault| NodeFault {
             node,
             offset,
             fault,
-        }),
-    }
+        })?;
+    Ok(())
 }
 
 // The record of a node, found by its pair.
 fn take_node<N: Network, M: Measure>(
     check: &mut Check<N>,
     measure: &M,
-    node: usize,
+    node: u16,
     tree: &[u8],
 ) -> Result<(), JudgeFault>
-    requires { node < 2000 }
     ensures network { network_of check.new ≡ network_of check.old }
     ensures state { Reached (state_of check.new) result (node_taken (M.Measure.meaning measure.now) (N.Network.meaning (network_of check.old)) (state_of check.old) node (record_answer tree.now node)) }
 {
-    let Some((offset, bytes)) = record_at(tree, node) else {
+    let node = node as usize;
+    let Some(found) = record_at(tree, node) else {
         return Err(JudgeFault::TreeRefused(TreeFault::Pair { at: 8 + 8 * node }));
     };
-    take_record(check, measure, node, offset, bytes)?;
-    Ok(())
+    Ok(take_record(check, measure, node, found)?)
 }
 
 // So many records; the first that is denied ends it.
@@ -68,9 +67,8 @@ pub(crate) fn take_nodes<N: Network, M: Measure>(
     check: &mut Check<N>,
     measure: &M,
     tree: &[u8],
-    count: usize,
+    count: u16,
 ) -> Result<(), JudgeFault>
-    requires { count ≤ 2000 }
     ensures network { network_of check.new ≡ network_of check.old }
     ensures state { Reached (state_of check.new) result (walk (M.Measure.meaning measure.now) (N.Network.meaning (network_of check.old)) tree.now (state_of check.old) 0 count) }
 {

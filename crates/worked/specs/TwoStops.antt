@@ -1,7 +1,9 @@
 -- The two-stop case, and what its plans and its leaf come to.
 use Rattle.std.specs.Prelude.{◌≡◌, ℕ, zero, suc, ◌/◌, ◌%◌, ◌≤◌, List, [], ◌∷◌, ◌++◌, Some, None, Ok, Err, Option, Result}
 use Rattle.std.proofs.Common.{arith}
+use Rattle.routing.specs.declared.cells.Fleet.{Fleet}
 use Rattle.routing.specs.declared.cells.Place.{Place}
+use Rattle.routing.specs.declared.cells.Road.{Road}
 use Rattle.routing.specs.Network.{Meaning}
 use Rattle.replay.specs.declared.faults.ListingFault.TheVariants.{TooLate, TooHeavy}
 use Rattle.replay.specs.declared.vans.Priced.{Priced}
@@ -21,17 +23,21 @@ depot from early = record { load = 0; opening = from; closing = 100; service = 0
 abbrev pub stop : (load to : ℕ) → load ≤ 10 → to ≤ 100 → Place
 stop load to light soon = record { load = load; opening = 0; closing = to; service = 0; loads = omega arith; opens = omega arith; closes = omega arith; serves = omega arith }
 
-abbrev arc : ℕ → ℕ → Option (ℕ × ℕ)
+-- an arc as dear as it is long
+abbrev road : (length : ℕ) → length ≤ 5 → Road
+road length near = record { cost = length; travel = length; cheap = omega arith; short = omega arith }
+
+abbrev arc : ℕ → ℕ → Option Road
 arc zero zero = None
-arc zero (suc zero) = Some (4, 4)
-arc zero (suc (suc zero)) = Some (5, 5)
+arc zero (suc zero) = Some (road 4 (omega arith))
+arc zero (suc (suc zero)) = Some (road 5 (omega arith))
 arc zero (suc (suc (suc j))) = None
-arc (suc zero) zero = Some (4, 4)
+arc (suc zero) zero = Some (road 4 (omega arith))
 arc (suc zero) (suc zero) = None
-arc (suc zero) (suc (suc zero)) = Some (3, 3)
+arc (suc zero) (suc (suc zero)) = Some (road 3 (omega arith))
 arc (suc zero) (suc (suc (suc j))) = None
-arc (suc (suc zero)) zero = Some (5, 5)
-arc (suc (suc zero)) (suc zero) = Some (3, 3)
+arc (suc (suc zero)) zero = Some (road 5 (omega arith))
+arc (suc (suc zero)) (suc zero) = Some (road 3 (omega arith))
 arc (suc (suc zero)) (suc (suc j)) = None
 arc (suc (suc (suc i))) j = None
 
@@ -43,7 +49,7 @@ places d first (suc (suc (suc i))) = None
 
 -- the case with this depot, this first customer and this capacity
 abbrev pub case_with : Place → Place → ℕ → Meaning
-case_with d first capacity = record { customers = 2; place = places d first; capacity = capacity; fleet = (0, 2); arc = arc }
+case_with d first capacity = record { customers = 2; place = places d first; capacity = capacity; fleet = record { least = 0; most = 2; least_few = omega arith; most_few = omega arith }; arc = arc }
 
 abbrev usual : Place
 usual = depot 0 (omega arith)

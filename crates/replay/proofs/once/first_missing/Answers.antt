@@ -4,9 +4,6 @@ use Rattle.routing.specs.Routes.{count}
 use Rattle.replay.specs.Listing.{missing}
 use Rattle.replay.proofs.once.first_missing.Goals as goal
 
-pub loop-c-init : goal.loop-c-init
-loop-c-init c xs same = ap (missing xs 1) (omega arith)
-
 pub returns-then-not-seen-c : goal.returns-then-not-seen-c
 returns-then-not-seen-c c xs same =
     let s = c.loop-c in
@@ -21,9 +18,3 @@ loop-c-preserved c xs same =
     let less : c.args.customers + 1 - (s.c + 1) ≡ c.args.customers - s.c = omega arith in
     let some = ltb-true 0 (count s.c xs) (sym (same s.c (omega arith) (omega (arith, c.ranges.customers.fits))) ∙ c.if-not-seen-c.false) in
     ap (missing xs (s.c + 1)) less ∙ sym (cond-false _ _ _ (ne_eqb (count s.c xs) 0 (λ e. omega arith))) ∙ ap (missing xs s.c) (sym more) ∙ s.invariant xs same
-
-pub returns : goal.returns
-returns c xs same =
-    let s = c.loop-c in
-    let none : c.args.customers + 1 - s.c ≡ 0 = omega arith in
-    ap (missing xs s.c) (sym none) ∙ s.invariant xs same

@@ -1,4 +1,4 @@
-use Rattle.std.proofs.Common.{◌≡◌, ◌+◌, ◌-◌, Err, sym, ap, ◌∙◌, arith}
+use Rattle.std.proofs.Common.{◌+◌, ◌-◌, Err, sym, ap, ◌∙◌, arith}
 use Rattle.std.proofs.lemmas.Result.{err_from_is_err_and}
 use Rattle.trees.specs.Tree.{pairs_answer, after}
 use Rattle.trees.proofs.Directory.{pair_more}
@@ -16,9 +16,3 @@ loop-k-preserved c =
     let s = c.loop-k in
     let bytes = c.args.bytes.now in
     ap (λ r. after r λ end. pairs_answer bytes (s.k + 1) end (c.args.count - (s.k + 1))) c.in_ok-from.ensures ∙ sym (pair_more bytes s.k s.from c.args.count (omega arith)) ∙ s.invariant
-
-pub returns : goal.returns
-returns c =
-    let s = c.loop-k in
-    let none : c.args.count - s.k ≡ 0 = omega arith in
-    ap (pairs_answer c.args.bytes.now s.k s.from) (sym none) ∙ s.invariant

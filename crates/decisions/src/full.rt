@@ -1,0 +1,5 @@
+// Why a decision is not taken up.
+
+// 64 decisions are held.
+#[derive(Clone, Copy)]
+pub struct Full;
