@@ -1,8 +1,8 @@
-// The calls of a check and what they are answered.
+//! The calls of a check and what they are answered.
 use crate::faults::CheckFault;
 use replay::vans::Priced;
 
-// A call: a listing to present, the record of a fork or of a leaf, or a question.
+/// A call: a listing to present, the record of a fork or of a leaf, or a question.
 #[derive(Clone, Copy)]
 pub enum Call<'a> {
     Present(&'a [u8]),
@@ -11,8 +11,8 @@ pub enum Call<'a> {
     Ask,
 }
 
-// How far the tree has come.
-#[derive(Clone, Copy)]
+/// How far the tree has come.
+#[derive(Clone, Copy, Debug, PartialEq, Eq)]
 pub enum Standing {
     // The tree is finished: no plan is cheaper than this cost, and one costs it.
     Proved { cost: u32 },
@@ -20,7 +20,7 @@ pub enum Standing {
     Open { decisions: usize },
 }
 
-#[derive(Clone, Copy)]
+#[derive(Clone, Copy, Debug, PartialEq, Eq)]
 pub enum Grant {
     Presented(Priced),
     Forked,

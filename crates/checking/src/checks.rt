@@ -1,4 +1,4 @@
-// A check over a network that it keeps.
+//! A check over a network that it keeps.
 use crate::progress::Progress;
 use decisions::layers::DecisionLayer;
 

@@ -1,4 +1,4 @@
-// Closing a branch with a leaf.
+//! Closing a branch with a leaf.
 ghost use Rattle.checking.specs.Calls.{close};
 ghost use Rattle.checking.specs.States.{network_of, state_of, Does};
 
@@ -10,7 +10,7 @@ use measures::measure::Measure;
 use routing::networks::Network;
 
 impl<N: Network> Check<N> {
-    // Closes the present branch with a leaf that holds there for the cost held, and goes on to the next branch.
+    /// Closes the present branch with a leaf that holds there for the cost held, and goes on to the next branch.
     pub fn close<M: Measure>(&mut self, measure: &M, bytes: &[u8]) -> Result<(), CheckFault>
         ensures { Does self.old (close (M.Measure.meaning measure.now) (N.Network.meaning (network_of self.old)) (state_of self.old) bytes.now) self.new result }
     {

@@ -1,4 +1,4 @@
-// Why a call of the check is denied, with the fault of a listing or a leaf carried whole.
+//! Why a call of the check is denied, with the fault of a listing or a leaf carried whole.
 ghost use Rattle.std.specs.Prelude.{◌≡◌};
 ghost use Rattle.checking.specs.declared.faults.CheckFault.TheVariants.{Full, Leaf, Listing};
 ghost use Rattle.checking.specs.Faults.{check_denial};
@@ -8,7 +8,7 @@ use leaf::faults::LeafFault;
 use replay::faults::ListingFault;
 use routing::denials::Denial;
 
-#[derive(Clone, Copy)]
+#[derive(Clone, Copy, Debug, PartialEq, Eq)]
 pub enum CheckFault {
     // The listing is not one of a plan.
     Listing(ListingFault),

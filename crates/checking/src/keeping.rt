@@ -1,4 +1,4 @@
-// The calls of a check.
+//! The calls of a check.
 ghost use Rattle.std.specs.Prelude.{◌≡◌};
 ghost use Rattle.checking.specs.Calls.{opening, present, fork, standing};
 ghost use Rattle.checking.specs.States.{network_of, state_of, Does};
@@ -13,7 +13,7 @@ use replay::vans::Priced;
 use routing::networks::Network;
 
 impl<N: Network> Check<N> {
-    // A check with no decision, no plan, unfinished.
+    /// A check with no decision, no plan, unfinished.
     pub fn new(network: N) -> Check<N>
         ensures network { network_of result ≡ network }
         ensures state { state_of result ≡ opening }
@@ -24,7 +24,7 @@ impl<N: Network> Check<N> {
         }
     }
 
-    // Prices a listing on the network below the decisions and holds its cost, if no plan at most that dear is held.
+    /// Prices a listing on the network below the decisions and holds its cost, if no plan at most that dear is held.
     pub fn present(&mut self, listing: &[u8]) -> Result<Priced, CheckFault>
         ensures { Does self.old (present (N.Network.meaning (network_of self.old)) (state_of self.old) listing.now) self.new result }
     {
@@ -36,7 +36,7 @@ impl<N: Network> Check<N> {
         Ok(priced)
     }
 
-    // Branches on an arc: the record has the letter A and its two places.
+    /// Branches on an arc: the record has the letter A and its two places.
     pub fn fork(&mut self, bytes: &[u8]) -> Result<(), CheckFault>
         ensures { Does self.old (fork (N.Network.meaning (network_of self.old)) (state_of self.old) bytes.now) self.new result }
     {
@@ -54,7 +54,7 @@ impl<N: Network> Check<N> {
         Ok(())
     }
 
-    // How far the tree has come.
+    /// How far the tree has come.
     pub fn ask(&self) -> Standing
         ensures { result ≡ standing (state_of self.now) }
     {
@@ -66,7 +66,7 @@ impl<N: Network> Check<N> {
         }
     }
 
-    // Takes the check apart: the network, and how far the tree has come.
+    /// Takes the check apart: the network, and how far the tree has come.
     pub fn end(self) -> (N, Standing)
         ensures network { result.0 ≡ network_of self }
         ensures answer { result.1 ≡ standing (state_of self) }

@@ -1,4 +1,4 @@
-// The check of a branch-and-price tree over any network.
+//! The check of a branch-and-price tree over any network.
 #![tactic(auto)]
 
 pub mod calls;

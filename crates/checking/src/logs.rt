@@ -1,4 +1,4 @@
-// Any call of a check, as a log has it.
+//! Any call of a check, as a log has it.
 ghost use Rattle.std.specs.Prelude.{◌≡◌};
 ghost use Rattle.checking.specs.Calls.{attempt};
 ghost use Rattle.checking.specs.Logs.{request};
@@ -10,7 +10,7 @@ use measures::measure::Measure;
 use routing::networks::Network;
 
 impl<N: Network> Check<N> {
-    // Any call, with its answer: calls are what a log holds, so they are values and no closures.
+    /// Any call, with its answer: calls are what a log holds, so they are values and no closures.
     pub fn take<M: Measure>(&mut self, measure: &M, call: Call<'_>) -> Answer
         ensures { Does self.old (attempt (M.Measure.meaning measure.now) (N.Network.meaning (network_of self.old)) (state_of self.old) (request call.entry)) self.new result }
     {

@@ -1,4 +1,4 @@
-// The plan of a check, and how far the tree has come with it.
+//! The plan of a check, and how far the tree has come with it.
 ghost use Rattle.std.specs.Prelude.{◌≡◌};
 ghost use Rattle.checking.specs.Progress.{held_in, finished_in, held_at};
 

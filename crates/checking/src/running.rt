@@ -1,4 +1,4 @@
-// A log: a check made over a network, fed with calls, each answered.
+//! A log: a check made over a network, fed with calls, each answered.
 ghost use Rattle.checking.specs.Logs.{Logged};
 
 use crate::calls::{Answer, Call};
@@ -6,8 +6,8 @@ use crate::checks::Check;
 use measures::measure::Measure;
 use routing::networks::Network;
 
-// Makes a check over a network, feeds it the calls in turn, and gives back the network, with the answers in the front of
-// the list that is lent. Where that list is shorter than the calls, which is the one reason to fail, nothing is done.
+/// Makes a check over a network, feeds it the calls in turn, and gives back the network, with the answers in the front of
+/// the list that is lent. Where that list is shorter than the calls, which is the one reason to fail, nothing is done.
 pub fn run_log<N: Network, M: Measure>(
     network: N,
     measure: &M,

@@ -9,6 +9,7 @@ use Rattle.decisions.specs.declared.decision.Side.TheVariants.{First, Second}
 use Rattle.decisions.specs.Decisions.{forbid, force, turned, under, decided}
 use Rattle.decisions.specs.Branches.{turned_last, unless_second, trimmed, backed_up}
 use Rattle.decisions.specs.Forks.{ToCome, Ahead, Open, StaysOpen, GoesOn}
+use Rattle.decisions.proofs.Parts.{plans_below, plans_below_under}
 use Rattle.decisions.proofs.Forks.{branch_splits}
 
 when_so : (b : Bool) (P : Type 0) → b ≡ true → P → MatchBool b P ⊥
@@ -19,6 +20,15 @@ module _ (routes : List (List ℕ)) where
   to_come_plan : (s : Side) (d : Decision) (m : Meaning) → ToCome s d m routes → Plan (under (turned d) m) routes
   to_come_plan First d m p = p
   to_come_plan Second d m p = absurd p
+
+  -- an open plan is a plan of the network
+  pub ahead_below : (m : Meaning) (ds : List Decision) → Ahead m ds routes → Plan m routes
+  ahead_below m [] a = absurd a
+  ahead_below m (d ∷ ds) a =
+      ⊎_elim (λ t. (plans_below_under m (turned d) routes (to_come_plan d.side d m t)).plan) (λ b. (plans_below_under m d routes (ahead_below (under d m) ds b)).plan) a
+
+  pub open_below : (m : Meaning) (ds : List Decision) → Open m ds routes → Plan m routes
+  open_below m ds o = ⊎_elim (λ p. (plans_below m ds routes p).plan) (ahead_below m ds) o
 
   -- a fork
   ahead_push : (m : Meaning) (ds : List Decision) (d : Decision) → Ahead m ds routes → Ahead m (ds ++ (d ∷ [])) routes

@@ -1,8 +1,8 @@
-// A branching decision: an arc is forbidden, or forced.
+//! A branching decision: an arc is forbidden, or forced.
 ghost use Rattle.std.specs.Prelude.{◌≡◌};
 ghost use Rattle.decisions.specs.Decisions.{removes, second, turned, forbid};
 
-#[derive(Clone, Copy, PartialEq, Eq, Default)]
+#[derive(Clone, Copy, Debug, PartialEq, Eq, Default)]
 pub enum Side {
     // The arc is forbidden.
     #[default]
@@ -11,7 +11,8 @@ pub enum Side {
     Second,
 }
 
-#[derive(Clone, Copy, Default)]
+/// The default is there for the library's vector, which fills its room with it.
+#[derive(Clone, Copy, Debug, PartialEq, Eq, Default)]
 pub struct Decision {
     pub from: u8,
     pub to: u8,
@@ -19,7 +20,7 @@ pub struct Decision {
 }
 
 impl Decision {
-    // The first side of the fork on an arc.
+    /// The first side of the fork on an arc.
     pub fn forbid(from: u8, to: u8) -> Decision
         ensures { result ≡ forbid from to }
     {
@@ -36,14 +37,14 @@ impl Decision {
         self.side == Side::Second
     }
 
-    // Goes over to the second side.
+    /// Goes over to the second side.
     pub fn turn(&mut self)
         ensures { self.new ≡ turned self.old }
     {
         self.side = Side::Second;
     }
 
-    // Whether the arc from i to j is gone under the decision.
+    /// Whether the arc from i to j is gone under the decision.
     pub fn removes(&self, i: u8, j: u8) -> bool
         ensures { result ≡ removes self.now i j }
     {

@@ -1,5 +1,5 @@
-// The decisions that a branch keeps, from the first to the last: each change as one of their list.
-ghost use Rattle.std.specs.Prelude.{◌≡◌, ◌<◌, ◌↔◌, [], ◌∷◌, ◌++◌, length, ◌==◌, nat_lt, IsOk, OnOk, OnErr};
+//! The decisions that a branch keeps, from the first to the last: each change as one of their list.
+ghost use Rattle.std.specs.Prelude.{◌≡◌, ◌<◌, ◌≤◌, ◌↔◌, [], ◌∷◌, ◌++◌, length, ◌==◌, nat_lt, IsOk, OnOk, OnErr};
 ghost use Rattle.decisions.specs.Decisions.{removed};
 ghost use Rattle.decisions.specs.Branches.{kept, turned_last, ends_second, trimmed, backed_up};
 
@@ -22,13 +22,15 @@ impl Decisions {
     }
 
     pub fn as_slice(&self) -> &[Decision]
-        ensures { result.now ≡ kept self.now }
+        ensures list { result.now ≡ kept self.now }
+        ensures few { length result.now ≤ 64 }
     {
         self.list.as_slice()
     }
 
     pub fn len(&self) -> usize
-        ensures { result ≡ length (kept self.now) }
+        ensures value { result ≡ length (kept self.now) }
+        ensures few { result ≤ 64 }
     {
         self.list.len()
     }
@@ -39,7 +41,7 @@ impl Decisions {
         self.list.is_full()
     }
 
-    // Adds a decision at the end, if there is room.
+    /// Adds a decision at the end, if there is room.
     pub fn push(&mut self, decision: Decision) -> Result<(), Full>
         ensures room { IsOk result ↔ (length (kept self.old) < 64) }
         ensures ok { OnOk result (kept self.new ≡ kept self.old ++ (decision ∷ [])) }

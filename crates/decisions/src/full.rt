@@ -1,5 +1,5 @@
-// Why a decision is not taken up.
+//! Why a decision is not taken up.
 
-// 64 decisions are held.
-#[derive(Clone, Copy)]
+/// 64 decisions are held.
+#[derive(Clone, Copy, Debug, PartialEq, Eq)]
 pub struct Full;

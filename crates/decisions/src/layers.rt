@@ -1,4 +1,4 @@
-// The network that is left of another under a branch's decisions.
+//! The network that is left of another under a branch's decisions.
 ghost use Rattle.std.specs.Prelude.{◌≡◌, ◌<◌, ◌↔◌, [], ◌∷◌, ◌++◌, length, nat_lt, IsOk, OnOk, OnErr};
 ghost use Rattle.decisions.specs.Decisions.{forbid, under};
 ghost use Rattle.decisions.specs.Branches.{kept, trimmed, backed_up};
@@ -49,7 +49,7 @@ impl<N: Network> Network for DecisionLayer<N> {
 }
 
 impl<N: Network> DecisionLayer<N> {
-    // The whole network, with nothing decided.
+    /// The whole network, with nothing decided.
     pub fn new(below: N) -> DecisionLayer<N>
         ensures below { result.below ≡ below }
         ensures list { kept result.decisions ≡ [] }
@@ -70,7 +70,7 @@ impl<N: Network> DecisionLayer<N> {
         below
     }
 
-    // The network below: each plan of the layer is a plan of it, at the same cost.
+    /// The network below: each plan of the layer is a plan of it, at the same cost.
     pub fn below(&self) -> &N
         ensures value { result.now ≡ self.now.below }
         ensures part { Part (left_of N.Network.meaning self.now) (N.Network.meaning result.now) }
@@ -79,7 +79,7 @@ impl<N: Network> DecisionLayer<N> {
         &self.below
     }
 
-    // Decides on an arc, which is forbidden at first, if there is room. No open plan is lost.
+    /// Decides on an arc, which is forbidden at first, if there is room. No open plan is lost.
     pub fn fork(&mut self, from: u8, to: u8) -> Result<(), Full>
         ensures room { IsOk result ↔ (length (kept self.old.decisions) < 64) }
         ensures list { OnOk result (kept self.new.decisions ≡ kept self.old.decisions ++ (forbid from to ∷ [])) }
@@ -91,8 +91,8 @@ impl<N: Network> DecisionLayer<N> {
         self.decisions.push(Decision::forbid(from, to))
     }
 
-    // Goes on to the next branch, where what was ahead is open, or answers false where nothing was: that is no refusal, and
-    // there is no value to hand back.
+    /// Goes on to the next branch, where what was ahead is open, or answers false where nothing was: that is no refusal, and
+    /// there is no value to hand back.
     pub fn back_up(&mut self) -> bool
         ensures answer { result ≡ nat_lt 0 (length (trimmed (kept self.old.decisions))) }
         ensures list { kept self.new.decisions ≡ backed_up (kept self.old.decisions) }

@@ -1,4 +1,4 @@
-// Branching decisions on arcs, and the network that keeps them over another.
+//! Branching decisions on arcs, and the network that keeps them over another.
 #![tactic(auto)]
 
 pub mod decision;

@@ -1,4 +1,4 @@
-// Examples of decisions and of the branches of a search.
+//! Examples of decisions and of the branches of a search.
 use crate::decision::Decision;
 use crate::decisions::Decisions;
 

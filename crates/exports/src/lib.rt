@@ -1,4 +1,4 @@
-// The judge for programs in other languages to link.
+//! The judge for programs in other languages to link.
 #![tactic(auto)]
 
 ghost use Rattle.exports.specs.Exported.{Exported};

@@ -1,5 +1,5 @@
 -- From what the readers and the replay promise to what two files are answered.
-use Rattle.std.proofs.Common.{◌≡◌, ℕ, ◌+◌, ◌*◌, ◌≤◌, Bool, true, false, cond, ◌||◌, ltb, List, length, take, Ok, Err, Option, Result, sym, refl, ap, ◌∙◌, subst, mul-le-mul, arith}
+use Rattle.std.proofs.Common.{◌≡◌, ℕ, ◌*◌, Bool, true, false, cond, ◌||◌, ltb, List, length, take, Ok, Err, Option, Result, sym, refl, ap, ◌∙◌, subst, arith}
 use Rattle.std.specs.Result.{MatchResult, IsErrAnd}
 use Rattle.routing.specs.declared.cells.Head.{Head}
 use Rattle.routing.specs.declared.cells.Place.{Place}
@@ -56,12 +56,6 @@ pub plan_refused : (case text : List ℕ) (m : Meaning) → CaseNetwork case m �
 plan_refused case text m network (Ok n) f listing listing' long said read = absurd (let z : ◌≡◌ {A = ℕ} 0 1 = cc in omega arith)
 plan_refused case text m network (Err e) f listing listing' long said read =
     subst (Denied case text) (sym said) (m, network, ap (plan_answer text) (sym long) ∙ read.0)
-
--- 61 places and 3721 arcs are enough for every case
-pub enough : (h : Head) (n k : ℕ) → n ≡ 61 → k ≡ 3721 → (h.customers + 1 ≤ n) × ((h.customers + 1) * (h.customers + 1) ≤ k)
-enough h n k a b =
-    let side : h.customers + 1 ≤ 61 = omega (arith, h.few) in
-    (omega (arith, h.few), omega (arith, mul-le-mul side side))
 
 module _ (case plan listing : List ℕ) (m : Meaning) (network : CaseNetwork case m) (lists : PlanListing plan listing) where
   -- what the listing's price makes of both texts

@@ -16,16 +16,16 @@ part_bytes Tree = codes "tree"
 
 -- `priced COST routes K`, `optimal COST`, `open K`, or `fault NUMBER PART node N arc I J place P`
 abbrev pub line_bytes : Line → List ℕ
-line_bytes (PricedLine cost routes) = codes "priced " ++ (decimal cost ++ (codes " routes " ++ decimal routes))
+line_bytes (PricedLine p) = codes "priced " ++ (decimal p.cost ++ (codes " routes " ++ decimal p.routes))
 line_bytes (Optimal cost) = codes "optimal " ++ decimal cost
 line_bytes (Open decisions) = codes "open " ++ decimal decisions
-line_bytes (Fault number part node from to place) =
-    codes "fault " ++ (decimal number ++ (codes " " ++ (part_bytes part ++ (codes " node " ++ (decimal node ++ (codes " arc " ++ (decimal from ++ (codes " " ++ (decimal to ++ (codes " place " ++ decimal place))))))))))
+line_bytes (Fault part node d) =
+    codes "fault " ++ (decimal d.number ++ (codes " " ++ (part_bytes part ++ (codes " node " ++ (decimal node ++ (codes " arc " ++ (decimal d.from ++ (codes " " ++ (decimal d.to ++ (codes " place " ++ decimal d.place))))))))))
 
 -- the line of a denial, by the file and the node that it is found in
 abbrev pub fault_line : Part → ℕ → Denial → Line
-fault_line part node d = Fault d.number part node d.from d.to d.place
+fault_line part node d = Fault part node d
 
 abbrev pub line_of : Result Priced FileFault → Line
-line_of (Ok p) = PricedLine p.cost p.routes
+line_of (Ok p) = PricedLine p
 line_of (Err f) = fault_line (file_part f) 0 (file_denial f)

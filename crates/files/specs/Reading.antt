@@ -1,5 +1,5 @@
 -- What reading a case and a plan answers: a network with a listing, or the first text that is refused.
-use Rattle.std.specs.Prelude.{◌≡◌, ℕ, List, take, Ok, Err, Option, Result}
+use Rattle.std.specs.Prelude.{◌≡◌, ℕ, List, Ok, Err, Option, Result}
 use Rattle.routing.specs.declared.cells.Head.{Head}
 use Rattle.routing.specs.declared.cells.Place.{Place}
 use Rattle.routing.specs.declared.cells.Road.{Road}
@@ -32,7 +32,7 @@ abbrev pub means : Texts → Meaning
 means t = table_meaning t.head t.places t.arcs
 
 abbrev pub lists : Texts → List ℕ
-lists t = take t.count t.numbers
+lists t = t.listing.items
 
 pub record Granted (case plan : List ℕ) (t : Texts) : Type 0 where
   pub network : CaseNetwork case (means t)

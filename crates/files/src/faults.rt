@@ -1,4 +1,4 @@
-// Which file a fault is found in, with the fault carried whole.
+//! Which file a fault is found in, with the fault carried whole.
 ghost use Rattle.std.specs.Prelude.{◌≡◌};
 ghost use Rattle.files.specs.declared.faults.FileFault.TheVariants.{Refused, Listing};
 ghost use Rattle.files.specs.Faults.{refused_denial, refused_part, file_denial, file_part};
@@ -7,21 +7,21 @@ use replay::faults::ListingFault;
 use routing::denials::Denial;
 use texts::faults::TextFault;
 
-#[derive(Clone, Copy)]
+#[derive(Clone, Copy, Debug, PartialEq, Eq)]
 pub enum Part {
     Case,
     Plan,
     Tree,
 }
 
-// A text that is refused.
-#[derive(Clone, Copy)]
+/// A text that is refused.
+#[derive(Clone, Copy, Debug, PartialEq, Eq)]
 pub enum RefusedText {
     Case(TextFault),
     Plan(TextFault),
 }
 
-#[derive(Clone, Copy)]
+#[derive(Clone, Copy, Debug, PartialEq, Eq)]
 pub enum FileFault {
     // The case text or the plan text is refused.
     Refused(RefusedText),

@@ -1,4 +1,4 @@
-// From the bytes of the files to the line that is printed.
+//! From the bytes of the files to the line that is printed.
 #![tactic(auto)]
 
 pub mod case_and_plan;

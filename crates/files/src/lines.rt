@@ -1,4 +1,4 @@
-// The line that is printed.
+//! The line that is printed.
 ghost use Rattle.std.specs.Prelude.{◌≡◌, Some};
 ghost use Rattle.files.specs.Line.{part_bytes, line_bytes, fault_line, line_of};
 
@@ -19,13 +19,10 @@ impl fmt::Display for Part {
     }
 }
 
-#[derive(Clone, Copy)]
+#[derive(Clone, Copy, Debug, PartialEq, Eq)]
 pub enum Line {
     // The plan is one of the case.
-    Priced {
-        cost: u32,
-        routes: usize,
-    },
+    Priced(Priced),
     // No plan is cheaper.
     Optimal {
         cost: u32,
@@ -35,12 +32,9 @@ pub enum Line {
         decisions: usize,
     },
     Fault {
-        number: u8,
         part: Part,
         node: usize,
-        from: u8,
-        to: u8,
-        place: usize,
+        denial: Denial,
     },
 }
 
@@ -49,17 +43,16 @@ impl fmt::Display for Line {
 
     fn fmt<W: fmt::Write>(&self, f: &mut fmt::Formatter<W>) -> fmt::Result {
         match *self {
-            Line::Priced { cost, routes } => write!(f, "priced {cost} routes {routes}"),
+            Line::Priced(Priced { cost, routes }) => write!(f, "priced {cost} routes {routes}"),
             Line::Optimal { cost } => write!(f, "optimal {cost}"),
             Line::Open { decisions } => write!(f, "open {decisions}"),
-            Line::Fault {
-                number,
-                part,
-                node,
-                from,
-                to,
-                place,
-            } => {
+            Line::Fault { part, node, denial } => {
+                let Denial {
+                    number,
+                    from,
+                    to,
+                    place,
+                } = denial;
                 write!(
                     f,
                     "fault {number} {part} node {node} arc {from} {to} place {place}"
@@ -70,31 +63,21 @@ impl fmt::Display for Line {
 }
 
 impl Line {
-    // The line of a denial, by the file and the node that it is found in.
+    /// The line of a denial, by the file and the node that it is found in.
     pub fn fault(part: Part, node: usize, denial: Denial) -> Line
         ensures { result ≡ fault_line part node denial }
     {
-        Line::Fault {
-            number: denial.number,
-            part,
-            node,
-            from: denial.from,
-            to: denial.to,
-            place: denial.place,
-        }
+        Line::Fault { part, node, denial }
     }
 }
 
-// The line of an answer; outside the tree's records the node is 0. It is a function and no `From`, which no crate above
-// could write for its own answers.
+/// The line of an answer; outside the tree's records the node is 0. It is a function and no `From`, which no crate above
+/// could write for its own answers.
 pub fn line_for(answer: Result<Priced, FileFault>) -> Line
     ensures { result ≡ line_of answer }
 {
     match answer {
-        Ok(priced) => Line::Priced {
-            cost: priced.cost,
-            routes: priced.routes,
-        },
+        Ok(priced) => Line::Priced(priced),
         Err(fault) => Line::fault(fault.part(), 0, Denial::from(fault)),
     }
 }

@@ -1,4 +1,4 @@
-// The plan's price on the case, from the bytes of both files.
+//! The plan's price on the case, from the bytes of both files.
 ghost use Rattle.std.specs.Prelude.{List, ℕ};
 ghost use Rattle.files.specs.Pricing.{FilesPriced, listing_answer};
 ghost use Rattle.files.specs.Reading.{Granted};
@@ -16,8 +16,8 @@ fn price_read(texts: &Texts) -> Result<Priced, ListingFault>
     price(&texts.network(), texts.listing())
 }
 
-// The cost and the routes of the plan on the case's network, or the first fault: the case text's, the plan text's, the
-// listing's.
+/// The cost and the routes of the plan on the case's network, or the first fault: the case text's, the plan text's, the
+/// listing's.
 pub fn price_files(case: &[u8], plan: &[u8]) -> Result<Priced, FileFault>
     ensures { FilesPriced case.now plan.now result }
 {

@@ -1,4 +1,4 @@
-// Reads case.txt, plan.txt and tree.bin from the current folder, and prints one line.
+//! Reads case.txt, plan.txt and tree.bin from the current folder, and prints one line.
 #![tactic(auto)]
 
 use files::reading::contents;

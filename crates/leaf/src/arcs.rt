@@ -1,8 +1,8 @@
-// Whether a value keeps the rule along the arcs from its place.
-ghost use Rattle.std.specs.Prelude.{◌≡◌, ℕ, ◌+◌, ◌-◌, ◌*◌, ◌<◌, ◌≤◌, not, length, pos, None, slice_index_or, unsigned_abs};
+//! Whether a value keeps the rule along the arcs from its place.
+ghost use Rattle.std.specs.Prelude.{◌≡◌, ◌+◌, ◌-◌, ◌*◌, ◌≤◌, pos, unsigned_abs};
 
 use crate::checker::LeafCheck;
-use crate::drives::Drive;
+use crate::drives::Drives;
 use crate::held::Held;
 use measures::measure::Measure;
 use routing::cells::Road;
@@ -19,15 +19,16 @@ impl Held<'_> {
 }
 
 impl<N: Network, M: Measure> LeafCheck<'_, '_, N, M> {
-    ghost use Rattle.leaf.specs.Answer.{arc_ok, drive_ok, drives, first_refused};
+    ghost use Rattle.leaf.specs.Answer.{arc_ok, first_refused};
     ghost use Rattle.leaf.specs.Held.{leaf_of};
 
-    // Whether a value at a state keeps the rule along one arc: an absent arc or step asks nothing, an absent potential breaks it.
-    fn keeps_rule(&self, value: i64, state: M::State, to: u8, drive: Option<Drive>) -> bool
-        requires { to ≤ length self.now.leaf.duals.now }
-        ensures { let μ = M.Measure.meaning self.now.measure.now in result ≡ drive_ok μ (leaf_of μ self.now.leaf) value state to drive }
+    // Whether a value at a state keeps the rule along the arc to an end: an absent arc or step asks nothing, an absent potential breaks it.
+    fn keeps_rule(&self, value: i64, state: M::State, drives: &Drives<N>, to: u8) -> bool
+        requires same { drives.now.network.now ≡ self.now.network.now }
+        requires there { to ≤ (N.Network.meaning self.now.network.now).customers }
+        ensures { let μ = M.Measure.meaning self.now.measure.now in result ≡ arc_ok μ (N.Network.meaning self.now.network.now) (leaf_of μ self.now.leaf) value state drives.now.from to }
     {
-        let Some(drive) = drive else {
+        let Some(drive) = drives.to(to) else {
             return true;
         };
         let Some(reached) = self.measure.step(state, drive.by) else {
@@ -37,20 +38,10 @@ impl<N: Network, M: Measure> LeafCheck<'_, '_, N, M> {
         if to == 0 {
             return value <= cost;
         }
-        // `is_some_and` was tried: in its closure the bounds of the sum are not at hand.
-        match self.best_value(to, reached) {
-            Some(potential) => value <= cost - self.leaf.duals[to as usize - 1] + potential,
-            None => false,
-        }
-    }
-
-    // Whether a value at a state breaks the rule along the arc to an end, of a place's drives.
-    fn breaks_rule(&self, value: i64, state: M::State, row: &[Option<Drive>], to: u8) -> bool
-        requires row_long { length row.now ≡ (N.Network.meaning self.now.network.now).customers + 1 }
-        requires to_there { to < length row.now }
-        ensures { let μ = M.Measure.meaning self.now.measure.now in result ≡ not (drive_ok μ (leaf_of μ self.now.leaf) value state to (slice_index_or row.now to None)) }
-    {
-        !self.keeps_rule(value, state, to, row[to as usize])
+        let Some(potential) = self.best_value(to, reached) else {
+            return false;
+        };
+        value <= cost - self.leaf.duals[to as usize - 1] + potential
     }
 
     // The first end of the arcs from a place, from an end on, at which a value at a state breaks the rule.
@@ -58,12 +49,12 @@ impl<N: Network, M: Measure> LeafCheck<'_, '_, N, M> {
         &self,
         value: i64,
         state: M::State,
-        row: &[Option<Drive>],
+        drives: &Drives<N>,
         first: u8,
     ) -> Option<u8>
-        requires { length row.now ≡ (N.Network.meaning self.now.network.now).customers + 1 }
-        ensures { let μ = M.Measure.meaning self.now.measure.now in let m = N.Network.meaning self.now.network.now in (place : ℕ) → row.now ≡ drives m place → result ≡ first_refused (arc_ok μ m (leaf_of μ self.now.leaf) value state place) first (m.customers + 1 - first) }
+        requires { drives.now.network.now ≡ self.now.network.now }
+        ensures { let μ = M.Measure.meaning self.now.measure.now in let m = N.Network.meaning self.now.network.now in result ≡ first_refused (arc_ok μ m (leaf_of μ self.now.leaf) value state drives.now.from) first (m.customers + 1 - first) }
     {
-        (first..row.len() as u8).find(|to| self.breaks_rule(value, state, row, *to))
+        (first..self.network.customers() + 1).find(|to| !self.keeps_rule(value, state, drives, *to))
     }
 }

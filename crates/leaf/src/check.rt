@@ -1,4 +1,4 @@
-// Checking a leaf: its record, its rule, and its bound.
+//! Checking a leaf: its record, its rule, and its bound.
 ghost use Rattle.std.specs.Prelude.{◌≡◌, ◌≤◌, true, length};
 ghost use Rattle.leaf.specs.Answer.{leaf_answer};
 ghost use Rattle.leaf.specs.Fields.{well_sized};
@@ -6,13 +6,12 @@ ghost use Rattle.leaf.specs.Judges.{Judges};
 ghost use Rattle.leaf.specs.Record.{entry_count};
 
 use crate::checker::LeafCheck;
-use crate::drives::PLACES;
 use crate::faults::LeafFault;
-use crate::fields::{amount_at, scale_at, short_at};
+use crate::fields::{amount_at, scale_at};
 use crate::held::Held;
-use crate::index::{Index, find_ends, sort_entries};
+use crate::index::{Index, ends_of, sort_entries};
 use crate::potentials::Potential;
-use crate::records::{is_well_sized, read_duals, read_entries};
+use crate::records::{count_entries, read_duals, read_entries};
 use measures::measure::Measure;
 use routing::networks::Network;
 
@@ -38,8 +37,7 @@ fn check_fields<'a, N: Network, M: Measure>(
     read_entries(measure, network.customers(), bytes, entries)?;
     room.copy_from_slice(entries);
     sort_entries(room);
-    let mut ends = [0; PLACES];
-    find_ends(room, &mut ends);
+    let ends = ends_of(room);
     let leaf = Held {
         bytes,
         scale,
@@ -60,20 +58,21 @@ fn check_fields<'a, N: Network, M: Measure>(
     check.check_rule(cost)
 }
 
-// A well-sized record of at most so many entries. The room is fixed, since nothing is taken from a heap.
+// A well-sized record of so many entries, for which there is room. The room is fixed, since nothing is taken from a heap.
 fn check_sized<N: Network, M: Measure, const ROOM: usize>(
     network: &N,
     measure: &M,
     bytes: &[u8],
+    count: u16,
     cost: u32,
 ) -> Result<(), LeafFault>
     requires sized { well_sized (M.Measure.meaning measure.now).words (N.Network.meaning network.now).customers bytes.now ≡ true }
-    requires counted { entry_count (N.Network.meaning network.now).customers bytes.now ≤ ROOM }
+    requires counted { count ≡ entry_count (N.Network.meaning network.now).customers bytes.now }
+    requires enough { count ≤ ROOM }
     requires few { ROOM ≤ 65536 }
     ensures { result ≡ leaf_answer (M.Measure.meaning measure.now) (N.Network.meaning network.now) bytes.now cost }
 {
     let customers = network.customers() as usize;
-    let count = short_at(bytes, 11 + 8 * customers) as usize;
     let mut duals = [0; 60];
     let mut entries = [Potential::BLANK; ROOM];
     let mut room = [Potential::BLANK; ROOM];
@@ -82,14 +81,14 @@ fn check_sized<N: Network, M: Measure, const ROOM: usize>(
         measure,
         bytes,
         &mut duals[..customers],
-        &mut entries[..count],
-        &mut room[..count],
+        &mut entries[..count as usize],
+        &mut room[..count as usize],
         cost,
     )
 }
 
-// Grants a leaf whose rule holds for the cost of a plan, or says the first fault of its record or of the rule.
-// Most leaves have few entries, and room is cleared for each: so it comes in three sizes.
+/// Grants a leaf whose rule holds for the cost of a plan, or says the first fault of its record or of the rule.
+/// Most leaves have few entries, and room is cleared for each: so it comes in three sizes.
 pub fn check_leaf<N: Network, M: Measure>(
     network: &N,
     measure: &M,
@@ -99,16 +98,12 @@ pub fn check_leaf<N: Network, M: Measure>(
     ensures value { result ≡ leaf_answer (M.Measure.meaning measure.now) (N.Network.meaning network.now) «record».now cost }
     ensures judges { Judges (M.Measure.meaning measure.now) (N.Network.meaning network.now) «record».now cost result }
 {
-    let customers = network.customers();
-    if !is_well_sized(measure.words(), customers, record) {
-        return Err(LeafFault::Length);
-    }
-    let count = short_at(record, 11 + 8 * customers as usize);
+    let count = count_entries(measure.words(), network.customers(), record)?;
     if count <= 256 {
-        check_sized::<N, M, 256>(network, measure, record, cost)
+        check_sized::<N, M, 256>(network, measure, record, count, cost)
     } else if count <= 4096 {
-        check_sized::<N, M, 4096>(network, measure, record, cost)
+        check_sized::<N, M, 4096>(network, measure, record, count, cost)
     } else {
-        check_sized::<N, M, 65536>(network, measure, record, cost)
+        check_sized::<N, M, 65536>(network, measure, record, count, cost)
     }
 }

@@ -1,4 +1,4 @@
-// A leaf to be judged, with the network and the measure that it is judged by.
+//! A leaf to be judged, with the network and the measure that it is judged by.
 ghost use Rattle.std.specs.Prelude.{◌≡◌, length};
 ghost use Rattle.std.specs.List.{All};
 ghost use Rattle.std.specs.List.Sorted.{IsPermutation};

@@ -1,10 +1,10 @@
-// Why a leaf is not granted.
+//! Why a leaf is not granted.
 ghost use Rattle.std.specs.Prelude.{◌≡◌};
 ghost use Rattle.leaf.specs.Faults.{leaf_denial};
 
 use routing::denials::Denial;
 
-#[derive(Clone, Copy)]
+#[derive(Debug, Clone, Copy, PartialEq, Eq)]
 pub enum LeafFault {
     // The record is not of the length that its count says, or is no leaf's.
     Length,

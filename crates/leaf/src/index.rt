@@ -1,18 +1,18 @@
-// A leaf's entries in order, for look-ups.
-ghost use Rattle.std.specs.Prelude.{◌≡◌, ◌-◌, ◌≤◌, length, take, drop, slice_index};
+//! A leaf's entries in order, for look-ups.
+ghost use Rattle.std.specs.Prelude.{◌≡◌, ◌-◌, ◌≤◌, take, drop, slice_index};
 ghost use Rattle.std.specs.List.Sorted.{IsPermutation};
 ghost use Rattle.leaf.specs.Stored.{Rising, Ends};
 
+use crate::drives::PLACES;
 use crate::potentials::Potential;
 
-// Entries by place and then by value; and for each place, how many of them stand at it or at a lower one:
-// a look-up reads these ends, where a bisection would search.
+/// Entries by place and then by value; and for each place, how many of them stand at it or at a lower one:
+/// a look-up reads these ends, where a bisection would search.
 #[derive(Clone, Copy)]
 pub struct Index<'a> {
     pub sorted: &'a [Potential<usize>],
-    pub ends: &'a [usize],
+    pub ends: &'a [usize; PLACES],
     ghost rising: { Rising sorted.now },
-    ghost places: { length ends.now ≡ 61 },
     ghost ended: { Ends sorted.now ends.now },
 }
 
@@ -28,7 +28,7 @@ impl Index<'_> {
 }
 
 // Puts entries in order, by place and then by value.
-pub(crate) fn sort_entries<S: Copy>(entries: &mut [Potential<S>])
+pub(crate) fn sort_entries(entries: &mut [Potential<usize>])
     ensures shuffled { IsPermutation entries.old entries.new }
     ensures rising { Rising entries.new }
 {
@@ -36,12 +36,13 @@ pub(crate) fn sort_entries<S: Copy>(entries: &mut [Potential<S>])
 }
 
 // For each place, how many of the sorted stand at it or at a lower one.
-pub(crate) fn find_ends<S: Copy>(sorted: &[Potential<S>], ends: &mut [usize])
-    requires rising { Rising sorted.now }
-    requires places { length ends.old ≡ 61 }
-    ensures { Ends sorted.now ends.new }
+pub(crate) fn ends_of(sorted: &[Potential<usize>]) -> [usize; PLACES]
+    requires { Rising sorted.now }
+    ensures { Ends sorted.now result }
 {
+    let mut ends = [0; PLACES];
     for (place, end) in ends.iter_mut().enumerate() {
         *end = sorted.partition_point(|entry| entry.place as usize <= place);
     }
+    ends
 }

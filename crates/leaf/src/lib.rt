@@ -1,16 +1,16 @@
-// The leaf of a branch-and-price tree: its record, its rule, and the bound that it gives.
+//! The leaf of a branch-and-price tree: its record, its rule, and the bound that it gives.
 #![tactic(auto)]
 
-pub mod arcs;
+mod arcs;
 pub mod check;
-pub mod checker;
-pub mod drives;
+mod checker;
+mod drives;
 pub mod faults;
-pub mod fields;
-pub mod held;
-pub mod index;
-pub mod look;
+mod fields;
+mod held;
+mod index;
+mod look;
 pub mod potentials;
-pub mod reach;
-pub mod records;
-pub mod rules;
+mod reach;
+mod records;
+mod rules;

@@ -1,4 +1,4 @@
-// Looking up a leaf's potential at a place and a state.
+//! Looking up a leaf's potential at a place and a state.
 ghost use Rattle.std.specs.Prelude.{◌≡◌, ◌≤◌, IfSome, unsigned_abs};
 
 use crate::checker::LeafCheck;

@@ -1,7 +1,7 @@
-// A completion potential: an entry of a leaf, at a place and a corner of the measure.
+//! A completion potential: an entry of a leaf, at a place and a corner of the measure.
 
-// From the place on, at any state that the corner is at most, what is left costs at least the value.
-// The order is by place, then by value.
+/// From the place on, at any state that the corner is at most, what is left costs at least the value.
+/// The order is by place, then by value.
 #[derive(Clone, Copy)]
 #[derive_where(PartialEq, Eq, PartialOrd, Ord)]
 pub struct Potential<S> {

@@ -1,4 +1,4 @@
-// The bound that a leaf gives on the cost of a plan.
+//! The bound that a leaf gives on the cost of a plan.
 ghost use Rattle.std.specs.Prelude.{◌≡◌, ◌≤◌, length, pos, ◌-ℤ◌, ◌*ℤ◌, if◌then◌else◌, int_lt, unsigned_abs};
 ghost use Rattle.leaf.specs.Rule.{sum_z};
 
@@ -16,6 +16,7 @@ impl Held<'_> {
         ensures value { result ≡ sum_z self.now.duals.now }
         ensures small { unsigned_abs result ≤ 60000000000000 }
     {
+        // A `for`: the library has no lemma that bounds a `sum` of signed numbers.
         let mut sum = 0;
         for dual in self.duals {
             sum += *dual;

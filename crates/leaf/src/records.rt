@@ -1,7 +1,8 @@
-// Reading a leaf record: its length, then field by field.
-ghost use Rattle.std.specs.Prelude.{◌≡◌, ℕ, ◌+◌, ◌*◌, ◌^◌, ◌<◌, ◌≤◌, length, Ok, Err, Result, MatchResult};
+//! Reading a leaf record: its length, then field by field.
+ghost use Rattle.std.specs.Prelude.{◌≡◌, ℕ, ◌+◌, ◌*◌, ◌^◌, ◌<◌, ◌≤◌, true, false, length, Ok, Err, Result, MatchResult};
 ghost use Rattle.leaf.specs.declared.faults.LeafFault.{LeafFault};
-ghost use Rattle.leaf.specs.Record.{entry_size, entries_at, words};
+ghost use Rattle.leaf.specs.declared.faults.LeafFault.TheVariants.{Length};
+ghost use Rattle.leaf.specs.Record.{entry_count, entry_size, entries_at, words};
 ghost use Rattle.leaf.specs.Fields.{read_amount, read_corner, read_entry, read_each, well_sized};
 ghost use Rattle.leaf.specs.Stored.{read_located};
 
@@ -10,20 +11,23 @@ use crate::fields::{amount_at, place_at, short_at, words_at};
 use crate::potentials::Potential;
 use measures::measure::Measure;
 
-// Whether the record is a leaf's, and of the length that its count says.
-pub(crate) fn is_well_sized(words: usize, customers: u8, bytes: &[u8]) -> bool
+// How many entries the record has, where it is a leaf's and of the length that its count says.
+pub(crate) fn count_entries(words: usize, customers: u8, bytes: &[u8]) -> Result<u16, LeafFault>
     requires { words ≤ 100 }
-    ensures { result ≡ well_sized words customers bytes.now }
+    ensures { MatchResult result (λ count. (well_sized words customers bytes.now ≡ true) × (count ≡ entry_count customers bytes.now)) (λ f. (well_sized words customers bytes.now ≡ false) × (f ≡ Length)) }
 {
     let [b'L', ..] = bytes else {
-        return false;
+        return Err(LeafFault::Length);
     };
     let count_at = 11 + 8 * customers as usize;
     if bytes.len() < count_at + 2 {
-        return false;
+        return Err(LeafFault::Length);
     }
-    let count = short_at(bytes, count_at) as usize;
-    bytes.len() == count_at + 2 + count * (9 + 8 * words)
+    let count = short_at(bytes, count_at);
+    if bytes.len() != count_at + 2 + count as usize * (9 + 8 * words) {
+        return Err(LeafFault::Length);
+    }
+    Ok(count)
 }
 
 // Reads fields of one kind, as many as there is room for, each of so many bytes from an offset on.

@@ -1,8 +1,8 @@
-// The rule of a leaf: at each of its entries, and at the depot.
+//! The rule of a leaf: at each of its entries, and at the depot.
 ghost use Rattle.std.specs.Prelude.{◌≡◌};
 
 use crate::checker::LeafCheck;
-use crate::drives::{PLACES, drives_from, turn_to};
+use crate::drives::Drives;
 use crate::faults::LeafFault;
 use measures::measure::Measure;
 use routing::networks::Network;
@@ -16,17 +16,14 @@ impl<N: Network, M: Measure> LeafCheck<'_, '_, N, M> {
     pub(crate) fn check_entries(&self) -> Result<(), LeafFault>
         ensures { let μ = M.Measure.meaning self.now.measure.now in let m = N.Network.meaning self.now.network.now in result ≡ entries_answer μ m (leaf_of μ self.now.leaf) (entries_at m.customers) (entry_size μ.words) (leaf_of μ self.now.leaf).entries }
     {
-        let mut row = [None; PLACES];
-        let row = &mut row[..self.network.customers() as usize + 1];
-        let mut from = 0;
-        drives_from(self.network, from, row);
+        let mut drives = Drives::leaving(self.network, 0);
         for entry in self.leaf.entries {
-            turn_to(self.network, from, entry.place, row);
-            from = entry.place;
-            if let Some(to) = self.first_broken(entry.value, self.corner_of(*entry), row, 0) {
+            drives.turn_to(entry.place);
+            let corner = self.corner_of(*entry);
+            if let Some(to) = self.first_broken(entry.value, corner, &drives, 0) {
                 // Nine bytes of an entry, its place and its value, stand before its corner.
                 return Err(LeafFault::Entry {
-                    from,
+                    from: entry.place,
                     to,
                     offset: entry.corner - 9,
                 });
@@ -40,11 +37,12 @@ impl<N: Network, M: Measure> LeafCheck<'_, '_, N, M> {
         ensures { let μ = M.Measure.meaning self.now.measure.now in let m = N.Network.meaning self.now.network.now in result ≡ depot_answer μ m (leaf_of μ self.now.leaf) (m.place 0) }
     {
         let depot = self.network.place(0).unwrap();
-        let mut row = [None; PLACES];
-        let row = &mut row[..self.network.customers() as usize + 1];
-        drives_from(self.network, 0, row);
-        self.first_broken(self.leaf.price, self.measure.start(depot.opening), row, 1)
-            .map_or(Ok(()), |to| Err(LeafFault::Depot { to }))
+        let state = self.measure.start(depot.opening);
+        let drives = Drives::leaving(self.network, 0);
+        if let Some(to) = self.first_broken(self.leaf.price, state, &drives, 1) {
+            return Err(LeafFault::Depot { to });
+        }
+        Ok(())
     }
 
     // The rule at the entries and at the depot, then the bound.

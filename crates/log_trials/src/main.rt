@@ -1,10 +1,11 @@
-// Logs of a check over the two-stop case, each with the depot opening at 0 and late: every call's answer on a line.
+//! Logs of a check over the two-stop case, each with the depot opening at 0 and late: every call's answer on a line.
 #![tactic(auto)]
 
 use checking::calls::{Answer, Call, Grant, Standing};
 use checking::faults::CheckFault;
 use checking::running::run_log;
 use measures::load::Load;
+use replay::vans::Priced;
 use routing::cells::{Fleet, Head, Place, Road};
 use routing::denials::Denial;
 use routing::tables::TableNetwork;
@@ -17,6 +18,7 @@ const LEAF: [u8; 97] = [
     0, 0,
 ];
 
+// An arc as dear as it is long.
 fn road(length: u8) -> Option<Road> {
     Some(Road {
         cost: length as u32,
@@ -27,9 +29,7 @@ fn road(length: u8) -> Option<Road> {
 // Printed by hand: the types are another crate's, and their words here are this program's alone.
 fn show(rt: &HostRuntime, answer: Answer) -> io::Result<()> {
     match answer {
-        Ok(Grant::Presented(priced)) => {
-            let cost = priced.cost;
-            let routes = priced.routes;
+        Ok(Grant::Presented(Priced { cost, routes })) => {
             println!(rt; "presented {cost} routes {routes}")
         }
         Ok(Grant::Forked) => println!(rt; "forked"),
@@ -37,11 +37,12 @@ fn show(rt: &HostRuntime, answer: Answer) -> io::Result<()> {
         Ok(Grant::Stands(Standing::Proved { cost })) => println!(rt; "proved {cost}"),
         Ok(Grant::Stands(Standing::Open { decisions })) => println!(rt; "open {decisions}"),
         Err(fault) => {
-            let denial = Denial::from(fault);
-            let number = denial.number;
-            let from = denial.from;
-            let to = denial.to;
-            let place = denial.place;
+            let Denial {
+                number,
+                from,
+                to,
+                place,
+            } = Denial::from(fault);
             println!(rt; "denied {number} arc {from} {to} place {place}")
         }
     }

@@ -1,4 +1,4 @@
-// Measures: what a leaf's corners count along a route, with the laws that make their bounds true.
+//! Measures: what a leaf's corners count along a route, with the laws that make their bounds true.
 #![tactic(auto)]
 
 pub mod load;

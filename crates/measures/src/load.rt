@@ -1,4 +1,4 @@
-// The load: what the van has taken on.
+//! The load: what the van has taken on.
 ghost use Rattle.measures.specs.Load.{load_measuring};
 ghost use Rattle.measures.specs.LoadLaws.{load_laws};
 
@@ -9,7 +9,7 @@ use crate::words::{one_within, within};
 #[derive(Clone, Copy)]
 pub struct Load;
 
-// `words` and `at_most` answer as for time: one impl for both would overlap with the pair's.
+// `words` and `at_most` answer as for time: two bodies of one line, and an impl for both would overlap with the pair's.
 impl Measure for Load {
     type State = u32;
 

@@ -1,4 +1,4 @@
-// The interface of a measure: each question answers what the measure means, and none changes it.
+//! The interface of a measure: each question answers what the measure means, and none changes it.
 ghost use Rattle.std.specs.Prelude.{◌≡◌};
 ghost use Rattle.measures.specs.Measure.{Measuring, Laws};
 

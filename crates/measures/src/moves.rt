@@ -1,4 +1,4 @@
-// One drive along an arc, as a measure sees it.
+/// One drive along an arc, as a measure sees it: flat, since the laws of a measure speak of each number.
 #[derive(Clone, Copy)]
 pub struct Move {
     // The place driven to, its window and its load.

@@ -1,4 +1,4 @@
-// Two measures kept side by side.
+//! Two measures kept side by side.
 ghost use Rattle.measures.specs.Pair.{pair_measuring};
 ghost use Rattle.measures.specs.PairLaws.{pair_laws};
 
@@ -11,7 +11,7 @@ pub struct Pair<A, B> {
     pub second: B,
 }
 
-// The states of the two.
+/// The states of the two.
 #[derive(Clone, Copy)]
 pub struct Both<S, T> {
     pub first: S,

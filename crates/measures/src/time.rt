@@ -1,4 +1,4 @@
-// The minute: when service began at the place, at the earliest.
+//! The minute: when service began at the place, at the earliest.
 ghost use Rattle.measures.specs.Time.{time_measuring};
 ghost use Rattle.measures.specs.TimeLaws.{time_laws};
 

@@ -1,4 +1,4 @@
-// Numbers within a limit, and corners of one word.
+//! Numbers within a limit, and corners of one word.
 ghost use Rattle.std.specs.Prelude.{◌≡◌};
 ghost use Rattle.measures.specs.Words.{within, one_within};
 
@@ -9,7 +9,7 @@ pub(crate) fn within(number: u32, most: u32) -> Option<u32>
     (number <= most).then_some(number)
 }
 
-// The number in the words, where there is exactly one and it is at most `most`.
+/// The number in the words, where there is exactly one and it is at most `most`.
 pub fn one_within(words: &[u64], most: u32) -> Option<u32>
     ensures { result ≡ one_within most words.now }
 {

@@ -1,4 +1,4 @@
-// Driving a listing's routes, arc by arc, as early as the windows allow.
+//! Driving a listing's routes, arc by arc, as early as the windows allow.
 ghost use Rattle.std.specs.Prelude.{◌≡◌, ◌+◌, ◌*◌, ◌≤◌, length, IfOk};
 ghost use Rattle.replay.specs.Drive.{ready_van, timed, stepped, drive_answer};
 
@@ -7,7 +7,7 @@ use crate::vans::{Priced, Van};
 use routing::cells::{Place, Road};
 use routing::networks::Network;
 
-// What a van has at most grows with the arcs it has driven: it stands in two contracts, and not in the type.
+// A van's limits stand in two contracts: its cost grows with the arcs driven, and its time is bound only where it is not late.
 impl Van {
     // A van at the depot, ready from its opening on.
     fn at_depot(depot: Place, cost: u32, routes: usize) -> Van
@@ -76,9 +76,7 @@ pub(crate) fn drive<N: Network>(network: &N, listing: &[u8]) -> Result<Priced, L
     requires { length listing.now ≤ 120 }
     ensures { result ≡ drive_answer (N.Network.meaning network.now) listing.now }
 {
-    let Some(depot) = network.place(0) else {
-        unreachable!()
-    };
+    let depot = network.place(0).unwrap();
     let mut van = Van::at_depot(depot, 0, 0);
     for (index, to) in listing.iter().enumerate() {
         van = van.step(network, index, *to)?;

@@ -1,10 +1,10 @@
-// Why a listing is not priced.
+//! Why a listing is not priced.
 ghost use Rattle.std.specs.Prelude.{◌≡◌};
 ghost use Rattle.replay.specs.Faults.{listing_denial};
 
 use routing::denials::Denial;
 
-#[derive(Clone, Copy)]
+#[derive(Clone, Copy, Debug, PartialEq, Eq)]
 pub enum ListingFault {
     // A number above the customers, a route without customers, or a last number that is not 0.
     Misplaced { index: usize },

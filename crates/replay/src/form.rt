@@ -1,4 +1,4 @@
-// The form of a listing: routes of customers, each ended by a 0.
+//! The form of a listing: routes of customers, each ended by a 0.
 ghost use Rattle.std.specs.Prelude.{◌≡◌, false};
 ghost use Rattle.replay.specs.Listing.{breaks, misplaced};
 ghost use Rattle.replay.specs.Answer.{form_answer};
@@ -29,12 +29,12 @@ fn first_misplaced(customers: u8, listing: &[u8]) -> Option<usize>
     None
 }
 
-// Denies a listing that is not made of routes, each with a customer and ended by a 0.
+/// Denies a listing that is not made of routes, each with a customer and ended by a 0.
 pub fn well_formed(customers: u8, listing: &[u8]) -> Result<(), ListingFault>
     ensures { result ≡ form_answer customers listing.now }
 {
-    first_misplaced(customers, listing).map_or(
-        Ok(()),
-        |index| Err(ListingFault::Misplaced { index }),
-    )
+    if let Some(index) = first_misplaced(customers, listing) {
+        return Err(ListingFault::Misplaced { index });
+    }
+    Ok(())
 }

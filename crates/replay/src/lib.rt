@@ -1,4 +1,4 @@
-// A listing of routes, priced on any network.
+//! A listing of routes, priced on any network.
 #![tactic(auto)]
 
 pub mod drive;

@@ -1,4 +1,4 @@
-// Whether a listing visits every customer exactly once.
+//! Whether a listing visits every customer exactly once.
 ghost use Rattle.std.specs.Prelude.{◌≡◌, ℕ, ◌<◌, ◌≤◌, false, ◌&&◌, List, [], length, None, Ok, Err, MatchResult, nat_lt, slice_index_or};
 ghost use Rattle.routing.specs.Routes.{count};
 ghost use Rattle.replay.specs.Listing.{repeated, missing};
@@ -27,7 +27,7 @@ fn visited(listing: &[u8]) -> Result<[bool; 256], ListingFault>
     Ok(seen)
 }
 
-// The smallest customer that was not seen.
+// The smallest customer that was not seen. `find` was tried: no lemma tells what it gives over `1..=customers`.
 fn first_missing(customers: u8, seen: &[bool; 256]) -> Option<u8>
     ensures { (l : List ℕ) → ((c : ℕ) → 1 ≤ c → c < 256 → slice_index_or seen.now c false ≡ nat_lt 0 (count c l)) → result ≡ missing l 1 customers }
 {
@@ -39,13 +39,13 @@ fn first_missing(customers: u8, seen: &[bool; 256]) -> Option<u8>
     None
 }
 
-// Denies the first customer that is visited twice, else the smallest that is not visited.
+/// Denies the first customer that is visited twice, else the smallest that is not visited.
 pub fn each_once(customers: u8, listing: &[u8]) -> Result<(), ListingFault>
     ensures { result ≡ once_answer customers listing.now }
 {
     let seen = visited(listing)?;
-    first_missing(customers, &seen).map_or(
-        Ok(()),
-        |customer| Err(ListingFault::Missing { customer }),
-    )
+    if let Some(customer) = first_missing(customers, &seen) {
+        return Err(ListingFault::Missing { customer });
+    }
+    Ok(())
 }

@@ -1,4 +1,4 @@
-// The price of a listing on any network.
+//! The price of a listing on any network.
 ghost use Rattle.std.specs.Prelude.{◌≡◌};
 ghost use Rattle.replay.specs.Answer.{price_answer, fleet_answer};
 ghost use Rattle.replay.specs.Prices.{Prices};
@@ -22,7 +22,7 @@ fn within_fleet(fleet: Fleet, priced: Priced) -> Result<Priced, ListingFault>
     Ok(priced)
 }
 
-// The cost of a listing's routes and their number, or the first fault.
+/// The cost of a listing's routes and their number, or the first fault.
 pub fn price<N: Network>(network: &N, listing: &[u8]) -> Result<Priced, ListingFault>
     ensures value { result ≡ price_answer (N.Network.meaning network.now) listing.now }
     ensures plans { Prices (N.Network.meaning network.now) listing.now result }

@@ -1,6 +1,6 @@
-// A van on its way through a listing, and what the listing comes to.
+//! A van on its way through a listing, and what the listing comes to.
 
-// Where the van stands, when it is ready to leave, what it carries; and the cost and the routes so far.
+/// Where the van stands, when it is ready to leave, what it carries; and the cost and the routes so far.
 #[derive(Clone, Copy)]
 pub struct Van {
     pub at: u8,
@@ -10,8 +10,8 @@ pub struct Van {
     pub routes: usize,
 }
 
-// The cost of a plan and the number of its routes.
-#[derive(Clone, Copy)]
+/// The cost of a plan and the number of its routes.
+#[derive(Clone, Copy, Debug, PartialEq, Eq)]
 pub struct Priced {
     pub cost: u32,
     pub routes: usize,

@@ -1,4 +1,4 @@
-// Making a table network, and its answers.
+//! Making a table network, and its answers.
 ghost use Rattle.std.specs.Prelude.{◌≡◌, ◌+◌, ◌*◌, ◌≤◌, not, ◌&&◌, length, MatchOption, ◌==◌, nat_le};
 ghost use Rattle.routing.specs.Tables.{table_meaning};
 ghost use Rattle.routing.specs.Lawful.{table_limits};
@@ -8,7 +8,7 @@ use crate::networks::Network;
 use crate::tables::TableNetwork;
 
 impl Place {
-    // The same window with no load and no service; the check knows no `..` over a type with facts.
+    /// The same window with no load and no service; the check knows no `..` over a type with facts.
     pub fn unladen(&self) -> Place
         ensures { (result.load ≡ 0) × (result.opening ≡ self.now.opening) × (result.closing ≡ self.now.closing) × (result.service ≡ 0) }
     {
@@ -45,7 +45,7 @@ impl Head {
 }
 
 impl<'a> TableNetwork<'a> {
-    // A network over the tables, or none where they have too few cells for its places or arcs.
+    /// A network over the tables, or none where they have too few cells for its places or arcs.
     pub fn new(
         head: Head,
         places: &'a [Place],
@@ -61,7 +61,7 @@ impl<'a> TableNetwork<'a> {
     }
 }
 
-impl<'a> Network for TableNetwork<'a> {
+impl Network for TableNetwork<'_> {
     ghost meaning = { λ t. table_meaning t.head t.places.now t.arcs.now };
 
     ghost limits = { λ t. table_limits t.head t.places.now t.arcs.now t.placed };

@@ -1,7 +1,7 @@
-// What a case is made of: each value of these types is within its limits.
+//! What a case is made of: each value of these types is within its limits.
 ghost use Rattle.std.specs.Prelude.{◌≡◌, ◌≤◌, MatchOption};
 
-// A place's load, its time window and its service; minutes for times.
+/// A place's load, its time window and its service; minutes for times.
 #[derive(Clone, Copy)]
 pub struct Place {
     pub load: u32,
@@ -14,7 +14,7 @@ pub struct Place {
     ghost serves: { service ≤ 60000 },
 }
 
-// An arc's cost and travel.
+/// An arc's cost and travel.
 #[derive(Clone, Copy)]
 pub struct Road {
     pub cost: u32,
@@ -23,7 +23,7 @@ pub struct Road {
     ghost short: { travel ≤ 60000 },
 }
 
-// The least and the most number of vans.
+/// The least and the most number of vans.
 #[derive(Clone, Copy)]
 pub struct Fleet {
     pub least: u8,
@@ -32,7 +32,7 @@ pub struct Fleet {
     ghost most_few: { most ≤ 60 },
 }
 
-// How many customers there are, what a van carries, and the fleet.
+/// How many customers there are, what a van carries, and the fleet.
 #[derive(Clone, Copy)]
 pub struct Head {
     pub customers: u8,
@@ -44,7 +44,7 @@ pub struct Head {
 }
 
 impl Place {
-    // A place to fill a table with.
+    /// A place to fill a table with.
     pub const BLANK: Place = Place {
         load: 0,
         opening: 0,
@@ -84,7 +84,7 @@ impl Head {
     pub fn new(customers: u8, capacity: u32, least: u8, most: u8) -> Option<Head>
         ensures { MatchOption result ((1 ≤ customers) × (customers ≤ 60) × (capacity ≤ 10000) × (least ≤ 60) × (most ≤ 60) → ⊥) (λ h. (h.customers ≡ customers) × (h.capacity ≡ capacity) × (h.fleet.least ≡ least) × (h.fleet.most ≡ most)) }
     {
-        if customers >= 1 && customers <= 60 && capacity <= 10_000 && least <= 60 && most <= 60 {
+        if (1..=60).contains(&customers) && capacity <= 10_000 && least <= 60 && most <= 60 {
             Some(Head {
                 customers,
                 capacity,

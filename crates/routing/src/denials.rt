@@ -1,7 +1,7 @@
-// What a denial hands back.
+//! What a denial hands back.
 ghost use Rattle.std.specs.Prelude.{◌≡◌};
 
-#[derive(Clone, Copy)]
+#[derive(Clone, Copy, Debug, PartialEq, Eq)]
 pub struct Denial {
     // Which rule was broken: a number, since it is printed and other programs read it.
     pub number: u8,
@@ -13,7 +13,7 @@ pub struct Denial {
 }
 
 impl Denial {
-    // A denial that names no arc.
+    /// A denial that names no arc.
     pub fn at(number: u8, place: usize) -> Denial
         ensures { (result.number ≡ number) × (result.from ≡ 0) × (result.to ≡ 0) × (result.place ≡ place) }
     {

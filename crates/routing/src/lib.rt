@@ -1,4 +1,4 @@
-// Networks of the vehicle routing problem with time windows.
+//! Networks of the vehicle routing problem with time windows.
 #![tactic(auto)]
 
 pub mod answers;

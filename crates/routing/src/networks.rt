@@ -1,4 +1,4 @@
-// The interface of a network: each question answers what the network means, and none changes it.
+//! The interface of a network: each question answers what the network means, and none changes it.
 ghost use Rattle.std.specs.Prelude.{◌≡◌};
 ghost use Rattle.routing.specs.Network.{Meaning, Limits};
 

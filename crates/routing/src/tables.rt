@@ -1,9 +1,9 @@
-// The network that answers from a case's tables.
+//! The network that answers from a case's tables.
 ghost use Rattle.std.specs.Prelude.{◌+◌, ◌*◌, ◌≤◌, length};
 
 use crate::cells::{Head, Place, Road};
 
-// Places from the depot on, and arcs row by row: the arc from i to j stands at i × (customers + 1) + j.
+/// Places from the depot on, and arcs row by row: the arc from i to j stands at i × (customers + 1) + j.
 #[derive(Drop)]
 pub struct TableNetwork<'a> {
     pub head: Head,

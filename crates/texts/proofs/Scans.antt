@@ -50,21 +50,25 @@ module _ {X : Type 0} (p : ℕ → Bool) (seen : List Token → X) (one : (at b 
       (λ h. ap (λ k. seen (tokens false (at + k) (drop k (b ∷ bs)))) (cond-false (p b) (1 + prefix_len p bs) 0 h) ∙ ap (λ n. seen (tokens false n (b ∷ bs))) (add-zero at))
       (cases_Bool (p b))
 
-pub spaces_passed : (at : ℕ) (bs : List ℕ) → tokens false (at + prefix_len space bs) (drop (prefix_len space bs) bs) ≡ tokens false at bs
-spaces_passed = passed space (λ ts. ts) (λ at b bs h. past_space false at b bs (eqb-true b 32 h))
+pub spaces_passed : (at n : ℕ) (bs : List ℕ) → n ≡ prefix_len space bs → tokens false (at + n) (drop n bs) ≡ tokens false at bs
+spaces_passed at n bs e = ap (λ k. tokens false (at + k) (drop k bs)) e ∙ passed space (λ ts. ts) (λ at b bs h. past_space false at b bs (eqb-true b 32 h)) at bs
 
-pub blanks_passed : (at : ℕ) (bs : List ℕ) → words (tokens false (at + prefix_len blank bs) (drop (prefix_len blank bs) bs)) ≡ words (tokens false at bs)
-blanks_passed =
-    passed blank words (λ at b bs h. ⊎_elim (λ s. ap words (past_space false at b bs s)) (λ f. ap words (past_feed false at b bs f)) (blank_cases b (not_from_true (blank b) h)))
+pub blanks_passed : (at n : ℕ) (bs : List ℕ) → n ≡ prefix_len blank bs → words (tokens false (at + n) (drop n bs)) ≡ words (tokens false at bs)
+blanks_passed at n bs e =
+    ap (λ k. words (tokens false (at + k) (drop k bs))) e
+    ∙ passed blank words (λ at b bs h. ⊎_elim (λ s. ap words (past_space false at b bs s)) (λ f. ap words (past_feed false at b bs f)) (blank_cases b (not_from_true (blank b) h))) at bs
 
 -- after the bytes that pass a test stands none that does
-pub none_passes : (p : ℕ → Bool) (bs : List ℕ) → prefix_len p (drop (prefix_len p bs) bs) ≡ 0
-none_passes p [] = refl
-none_passes p (b ∷ bs) =
+none_after : (p : ℕ → Bool) (bs : List ℕ) → prefix_len p (drop (prefix_len p bs) bs) ≡ 0
+none_after p [] = refl
+none_after p (b ∷ bs) =
     ⊎_elim
-    (λ h. ap (λ k. prefix_len p (drop k (b ∷ bs))) (cond-true (p b) (1 + prefix_len p bs) 0 h ∙ one-add (prefix_len p bs)) ∙ none_passes p bs)
+    (λ h. ap (λ k. prefix_len p (drop k (b ∷ bs))) (cond-true (p b) (1 + prefix_len p bs) 0 h ∙ one-add (prefix_len p bs)) ∙ none_after p bs)
     (λ h. ap (λ k. prefix_len p (drop k (b ∷ bs))) (cond-false (p b) (1 + prefix_len p bs) 0 h) ∙ cond-false (p b) (1 + prefix_len p bs) 0 h)
     (cases_Bool (p b))
+
+pub none_passes : (p : ℕ → Bool) (n : ℕ) (bs : List ℕ) → n ≡ prefix_len p bs → prefix_len p (drop n bs) ≡ 0
+none_passes p n bs e = ap (λ k. prefix_len p (drop k bs)) e ∙ none_after p bs
 
 -- where none passes, the first byte does not
 first_fails : (p : ℕ → Bool) (b : ℕ) (bs : List ℕ) → prefix_len p (b ∷ bs) ≡ 0 → p b ≡ false

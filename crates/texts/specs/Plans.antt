@@ -30,10 +30,6 @@ fits_listing room (Ok ns) = cond (nat_lt room 120) (Err ShortTable) (Ok ns)
 abbrev pub plan_answer : List ℕ → ℕ → Result (List ℕ) TextFault
 plan_answer text room = fits_listing room (plan_judged text)
 
-abbrev pub PlanJudged : Result ℕ TextFault → List ℕ → Result (List ℕ) TextFault → Type 0
-PlanJudged (Err f) numbers j = j ≡ Err f
-PlanJudged (Ok count) numbers j = (j ≡ Ok (take count numbers)) × (count ≤ 120)
-
 -- granted, the numbers stand in the list's front, and the rest is as it was; refused, nothing was written
 abbrev pub PlanRead : List ℕ → List ℕ → Result ℕ TextFault → List ℕ → Type 0
 PlanRead text listing (Err f) listing' = (plan_answer text (length listing) ≡ Err f) × (listing' ≡ listing)

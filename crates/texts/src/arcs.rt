@@ -1,4 +1,4 @@
-// Arc words: `-`, or a cost and a travel with a slash between.
+//! Arc words: `-`, or a cost and a travel with a slash between.
 ghost use Rattle.std.specs.Prelude.{◌≡◌, [], ◌==◌, IfSome, option_map, position};
 ghost use Rattle.std.specs.List.{before_first, after_first};
 ghost use Rattle.texts.specs.Arcs.{is_byte, is_slash, road_fields, as_fields, road_at, arc_at, arc_due};
@@ -29,7 +29,7 @@ impl Word<'_> {
     pub(crate) fn is_byte(self, byte: u8) -> bool
         ensures { result ≡ is_byte byte self.entry.bytes.now }
     {
-        self.bytes.len() == 1 && self.bytes[0] == byte
+        matches!(self.bytes, [b] if *b == byte)
     }
 
     // The cost and the travel that the word writes.

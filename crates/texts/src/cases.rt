@@ -1,4 +1,4 @@
-// Reading a case into tables that are lent.
+//! Reading a case into tables that are lent.
 ghost use Rattle.std.specs.Prelude.{◌≡◌};
 ghost use Rattle.texts.specs.Cases.{case_judged, CaseJudged, CaseRead};
 ghost use Rattle.texts.specs.Written.{CasesAsWritten};
@@ -25,9 +25,9 @@ fn judge_case(
     Ok(head)
 }
 
-// Reads a case: its head is answered, and its places and arcs are written to the fronts of the
-// tables, the arc from i to j at i times the number of places, plus j. A refused text writes nothing.
-// The text is judged aside, in tables for the largest case, since there is no heap; the lent tables' lengths are looked at last.
+/// Reads a case: its head is answered, and its places and arcs are written to the fronts of the
+/// tables, the arc from i to j at i times the number of places, plus j. A refused text writes nothing.
+/// The text is judged aside, in tables for the largest case, since there is no heap; the lent tables' lengths are looked at last.
 pub fn read_case(
     text: &[u8],
     places: &mut [Place],

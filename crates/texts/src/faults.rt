@@ -1,10 +1,10 @@
-// Why a text is refused, and where.
+//! Why a text is refused, and where.
 ghost use Rattle.std.specs.Prelude.{◌≡◌};
 ghost use Rattle.texts.specs.Faults.{fault_number, fault_place, text_denial};
 
 use routing::denials::Denial;
 
-#[derive(Clone, Copy)]
+#[derive(Clone, Copy, Debug, PartialEq, Eq)]
 pub enum TextFault {
     // A word of another form than the one due.
     Form(usize),
@@ -28,7 +28,7 @@ impl TextFault {
         }
     }
 
-    // The offset in the text, or 0 where the fault is not the text's.
+    /// The offset in the text, or 0 where the fault is not the text's.
     pub fn place(&self) -> usize
         ensures { result ≡ fault_place self.now }
     {

@@ -1,4 +1,4 @@
-// Reading a case and a plan from text, with the first fault of a text that is refused.
+//! Reading a case and a plan from text, with the first fault of a text that is refused.
 #![tactic(auto)]
 
 mod arcs;

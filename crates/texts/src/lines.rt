@@ -1,4 +1,4 @@
-// The lines of a case: its head and a place.
+//! The lines of a case: its head and a place.
 ghost use Rattle.std.specs.Prelude.{◌≡◌};
 ghost use Rattle.texts.specs.Lines.{mark_due, head_due, head_fields, place_due, place_fields};
 ghost use Rattle.texts.specs.Reading.{state, judged};

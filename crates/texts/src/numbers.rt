@@ -1,4 +1,4 @@
-// Number words: 1 to 9 digits without a needless zero in front.
+//! Number words: 1 to 9 digits without a needless zero in front.
 ghost use Rattle.std.specs.Prelude.{◌≡◌, ◌≤◌, IfOk};
 ghost use Rattle.std.specs.Char.{is_ascii_digit};
 ghost use Rattle.std.specs.List.{list_all};
@@ -12,7 +12,7 @@ use crate::reader::{Reader, Word};
 fn is_shaped(word: &[u8]) -> bool
     ensures { result ≡ shaped word.now }
 {
-    word.len() >= 1 && word.len() <= 9 && (word.len() == 1 || word[0] != b'0')
+    (1..=9).contains(&word.len()) && (word.len() == 1 || word[0] != b'0')
 }
 
 fn all_digits(word: &[u8]) -> bool
@@ -39,7 +39,7 @@ impl Word<'_> {
         ensures bounded { IfOk result (λ n. (low ≤ n) × (n ≤ high)) }
     {
         let number = number_of(self.bytes).ok_or(TextFault::Form(self.at))?;
-        if number < low || high < number {
+        if !(low..=high).contains(&number) {
             return Err(TextFault::Range(self.at));
         }
         Ok(number)

@@ -1,5 +1,5 @@
-// A reader over a text: past spaces and line feeds, over a word, over a line's end.
-ghost use Rattle.std.specs.Prelude.{◌≡◌, ◌+◌, ◌^◌, ◌<◌, ◌≤◌, ◌∷◌, IfSome, length, take, drop};
+//! A reader over a text: past spaces and line feeds, over a word, over a line's end.
+ghost use Rattle.std.specs.Prelude.{◌≡◌, ℕ, Bool, ◌+◌, ◌^◌, ◌<◌, ◌≤◌, ◌∷◌, IfSome, length, take, drop};
 ghost use Rattle.std.specs.List.{prefix_len};
 ghost use Rattle.texts.specs.Tokens.{word, space, blank, letter, words};
 
@@ -27,26 +27,13 @@ fn is_blank(b: u8) -> bool
     b == b' ' || b == b'\n'
 }
 
-// How many bytes in front are spaces; then the same of blanks, and of a word's bytes.
-fn count_spaces(bytes: &[u8]) -> usize
-    ensures all { result ≡ prefix_len space bytes.now }
+// How many bytes in front pass the test.
+fn count_while<F: Fn(u8) -> bool>(bytes: &[u8], test: F) -> usize
+    requires { (b : ℕ) → F.pre test b }
+    ensures all { (p : ℕ → Bool) → ((b : ℕ) (r : Bool) → F.post test b r → r ≡ p b) → result ≡ prefix_len p bytes.now }
     ensures within { result ≤ length bytes.now }
 {
-    bytes.iter().take_while(|b| **b == b' ').count()
-}
-
-fn count_blanks(bytes: &[u8]) -> usize
-    ensures all { result ≡ prefix_len blank bytes.now }
-    ensures within { result ≤ length bytes.now }
-{
-    bytes.iter().take_while(|b| is_blank(**b)).count()
-}
-
-fn count_letters(bytes: &[u8]) -> usize
-    ensures all { result ≡ prefix_len letter bytes.now }
-    ensures within { result ≤ length bytes.now }
-{
-    bytes.iter().take_while(|b| !is_blank(**b)).count()
+    bytes.iter().take_while(|b| test(**b)).count()
 }
 
 impl<'a> Reader<'a> {
@@ -79,7 +66,7 @@ impl<'a> Reader<'a> {
         ensures end { (state self.new).end ≡ (state self.old).end }
         ensures stops { prefix_len space self.new.rest.now ≡ 0 }
     {
-        self.pass(count_spaces(self.rest));
+        self.pass(count_while(self.rest, |b| b == b' '));
     }
 
     #[tactic(auto, using(crate::proofs::Scans::blanks_passed, crate::proofs::Scans::none_passes))]
@@ -87,7 +74,7 @@ impl<'a> Reader<'a> {
         ensures words { words (state self.new).tokens ≡ words (state self.old).tokens }
         ensures stops { prefix_len blank self.new.rest.now ≡ 0 }
     {
-        self.pass(count_blanks(self.rest));
+        self.pass(count_while(self.rest, is_blank));
     }
 
     // The word that begins here, if one does.
@@ -98,7 +85,7 @@ impl<'a> Reader<'a> {
         ensures at { IfSome result (λ w. self.new.at ≡ w.at + length w.bytes.now) }
         ensures end { (state self.new).end ≡ (state self.old).end }
     {
-        let length = count_letters(self.rest);
+        let length = count_while(self.rest, |b| !is_blank(b));
         if length == 0 {
             None
         } else {

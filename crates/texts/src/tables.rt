@@ -1,4 +1,4 @@
-// The tables of a case: its places, and its arcs row by row.
+//! The tables of a case: its places, and its arcs row by row.
 ghost use Rattle.std.specs.Prelude.{◌≡◌, ◌*◌, map, length, option_map};
 ghost use Rattle.texts.specs.Arcs.{arc_due, road_fields};
 ghost use Rattle.texts.specs.Judging.{times};

@@ -1,4 +1,4 @@
-// A small case and a small plan, and one refusal of each number.
+//! A small case and a small plan, and one refusal of each number.
 use crate::cases::read_case;
 use crate::faults::TextFault;
 use crate::plans::read_plan;
@@ -13,20 +13,6 @@ fn case_fault(text: &[u8]) -> Option<TextFault> {
     let mut places = [Place::BLANK; 3];
     let mut arcs: [Option<Road>; 9] = [None; 9];
     read_case(text, &mut places, &mut arcs).err()
-}
-
-fn same_fault(
-    rt: &impl Abort,
-    fault: Option<TextFault>,
-    number: u8,
-    place: usize,
-) -> Result<(), Fail> {
-    let Some(fault) = fault else {
-        return Err(Fail::new("granted"));
-    };
-    assert_eq!(rt; fault.number(), number);
-    assert_eq!(rt; fault.place(), place);
-    Ok(())
 }
 
 fn same_arc(rt: &impl Abort, arc: Option<Road>, cost: u32, travel: u32) -> Result<(), Fail> {
@@ -60,45 +46,49 @@ fn reads_two_stops(rt: HostRuntime) -> Result<(), Fail> {
 }
 
 #[test]
-fn refuses_cases(rt: HostRuntime) -> Result<(), Fail> {
-    same_fault(&rt, case_fault(b"M 2 010 0 2\n"), 1, 4)?;
-    same_fault(&rt, case_fault(b"M 2 10 0\n"), 2, 8)?;
-    same_fault(&rt, case_fault(b"M 2 10 2 1\n"), 3, 9)?;
-    same_fault(
-        &rt,
-        case_fault(b"M 1 0 0 0\n0 0 0 0\n0 0 0 0\n- -\n- -\n "),
-        2,
-        34,
-    )?;
+fn refuses_cases(rt: HostRuntime) {
+    assert_eq!(rt; case_fault(b"M 2 010 0 2\n"), Some(TextFault::Form(4)));
+    assert_eq!(rt; case_fault(b"M 2 10 0\n"), Some(TextFault::Count(8)));
+    assert_eq!(rt; case_fault(b"M 2 10 2 1\n"), Some(TextFault::Range(9)));
+    let surplus = b"M 1 0 0 0\n0 0 0 0\n0 0 0 0\n- -\n- -\n ";
+    assert_eq!(rt; case_fault(surplus), Some(TextFault::Count(34)));
     let mut places = [Place::BLANK; 2];
     let mut arcs: [Option<Road>; 9] = [None; 9];
-    same_fault(
-        &rt,
-        read_case(TWO_STOPS, &mut places, &mut arcs).err(),
-        4,
-        0,
-    )
+    let short = read_case(TWO_STOPS, &mut places, &mut arcs).err();
+    assert_eq!(rt; short, Some(TextFault::ShortTable));
 }
 
 #[test]
 fn reads_a_plan(rt: HostRuntime) {
     let mut listing = [7; 121];
-    assert_eq!(rt; read_plan(b" 1 2\n\n0 255", &mut listing).ok(), Some(4));
+    assert_eq!(rt; read_plan(b" 1 2\n\n0 255", &mut listing), Ok(4));
     assert_eq!(rt; listing[3], 255);
     assert_eq!(rt; listing[4], 7);
-    assert_eq!(rt; read_plan(b"", &mut listing).ok(), Some(0));
+    assert_eq!(rt; read_plan(b"", &mut listing), Ok(0));
 }
 
 #[test]
-fn refuses_plans(rt: HostRuntime) -> Result<(), Fail> {
+fn refuses_plans(rt: HostRuntime) {
     let mut listing = [0; 120];
-    same_fault(&rt, read_plan(b"1 +2", &mut listing).err(), 1, 2)?;
+    assert_eq!(rt; read_plan(b"1 +2", &mut listing), Err(TextFault::Form(2)));
     let mut long = [b' '; 242];
     for i in 0..121 {
         long[2 * i] = b'1';
     }
-    same_fault(&rt, read_plan(&long, &mut listing).err(), 2, 240)?;
-    same_fault(&rt, read_plan(b"1 256", &mut listing).err(), 3, 2)?;
+    assert_eq!(rt; read_plan(&long, &mut listing), Err(TextFault::Count(240)));
+    assert_eq!(rt; read_plan(b"1 256", &mut listing), Err(TextFault::Range(2)));
     let mut short = [0; 119];
-    same_fault(&rt, read_plan(b"", &mut short).err(), 4, 0)
+    assert_eq!(rt; read_plan(b"", &mut short), Err(TextFault::ShortTable));
+}
+
+#[test]
+fn numbers_faults(rt: HostRuntime) {
+    assert_eq!(rt; TextFault::Form(4).number(), 1);
+    assert_eq!(rt; TextFault::Count(8).number(), 2);
+    assert_eq!(rt; TextFault::Range(9).number(), 3);
+    assert_eq!(rt; TextFault::ShortTable.number(), 4);
+    assert_eq!(rt; TextFault::Form(4).place(), 4);
+    assert_eq!(rt; TextFault::Count(8).place(), 8);
+    assert_eq!(rt; TextFault::Range(9).place(), 9);
+    assert_eq!(rt; TextFault::ShortTable.place(), 0);
 }

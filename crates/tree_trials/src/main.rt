@@ -1,4 +1,4 @@
-// Judges each case folder with its tree that index.txt names, and prints its name and line.
+//! Judges each case folder with its tree that index.txt names, and prints its name and line.
 #![tactic(auto)]
 
 use files::reading::contents;

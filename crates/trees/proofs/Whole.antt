@@ -1,11 +1,12 @@
 -- A file is granted exactly when it is the one of a tree's records.
-use Rattle.std.proofs.Common.{◌≡◌, ℕ, zero, suc, ◌+◌, ◌*◌, ◌<◌, ◌≤◌, List, [], ◌++◌, length, get_or, drop, Ok, Result, sym, ap, ◌∙◌, subst, arith, w8, Fits}
+use Rattle.std.proofs.Common.{◌≡◌, ℕ, zero, suc, ◌+◌, ◌*◌, ◌<◌, ◌≤◌, List, [], ◌++◌, length, get_or, drop, Some, None, Ok, Option, Result, sym, refl, ap, ◌∙◌, subst, arith, w8, Fits}
 use Rattle.std.specs.List.{AllByRecursion}
 use Rattle.std.proofs.ByRecursion.{All-get_or, All-from_get_or}
 use Rattle.trees.specs.declared.faults.TreeFault.{TreeFault}
 use Rattle.trees.specs.declared.kind.Kind.{Kind}
 use Rattle.trees.specs.declared.head.TreeHead.{TreeHead}
-use Rattle.trees.specs.Tree.{after, head_answer, pairs_answer, tree_answer, record_answer}
+use Rattle.trees.specs.declared.records.Record.{Record}
+use Rattle.trees.specs.Tree.{after, head_answer, pairs_answer, tree_answer, as_found, record_answer}
 use Rattle.trees.specs.Files.{head_bytes, directory, contents, tree_bytes, Records, Found, Recorded, start_of, ReadsTree}
 use Rattle.trees.proofs.Bytes.{Byte}
 use Rattle.trees.proofs.Granted.{ok_after, parts, length_parts, parts_filled, parts_contents, parts_directory}
@@ -68,3 +69,12 @@ reads_tree bytes n r typed e =
       granted_is_tree = λ h ok. let t = is_tree bytes n h all (sym e ∙ ok) in (t.rs, t.fit, t.count, t.is, found bytes n h.kind t.rs t.is);
       granted_has_records = λ h ok. recorded bytes n h (is_tree bytes n h all (sym e ∙ ok));
     }
+
+-- where record k is recorded, what answers as it is found is a part with a byte or more, within the file
+pub found_part : (bytes : List ℕ) (k : ℕ) (r : Option Record) → as_found r ≡ record_answer bytes k → Recorded bytes k → (p : Record) × (r ≡ Some p) × (1 ≤ length p.bytes.now) × (p.offset + length p.bytes.now ≤ length bytes)
+found_part bytes k None e it = absurd (let z : ◌≡◌ {A = ℕ} 0 1 = cc (e, it.2) in omega arith)
+found_part bytes k (Some p) e it =
+    let same : ◌≡◌ {A = ℕ × List ℕ} (p.offset, p.bytes.now) (it.0, it.1) = cc (e, it.2) in
+    let at : p.offset ≡ it.0 = ap (λ q. q.0) same in
+    let part : p.bytes.now ≡ it.1 = ap (λ q. q.1) same in
+    (p, refl, omega (arith, it.3, ap length part), omega (arith, it.4, ap length part))

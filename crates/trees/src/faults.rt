@@ -1,10 +1,10 @@
-// Why a tree file is refused before its records are read.
+//! Why a tree file is refused before its records are read.
 ghost use Rattle.std.specs.Prelude.{◌≡◌};
 ghost use Rattle.trees.specs.Faults.{tree_denial};
 
 use routing::denials::Denial;
 
-#[derive(Clone, Copy)]
+#[derive(Clone, Copy, Debug, PartialEq, Eq)]
 pub enum TreeFault {
     // Too short for a head, or another mark.
     Mark,

@@ -1,14 +1,14 @@
-// The head of a tree file, read with its directory.
+//! The head of a tree file, read with its directory.
 ghost use Rattle.std.specs.Prelude.{◌≡◌};
 ghost use Rattle.trees.specs.Tree.{head_answer, tree_answer};
 ghost use Rattle.trees.specs.Files.{ReadsTree};
 
 use crate::faults::TreeFault;
-use crate::kind::Kind;
+pub use crate::kind::Kind;
 use crate::numbers::short_at;
 use crate::pairs::judge_pairs;
 
-#[derive(Clone, Copy)]
+#[derive(Clone, Copy, Debug, PartialEq, Eq)]
 pub struct TreeHead {
     pub kind: Kind,
     pub count: u16,
@@ -18,7 +18,7 @@ pub struct TreeHead {
 fn read_head(bytes: &[u8], customers: u8) -> Result<TreeHead, TreeFault>
     ensures { result ≡ head_answer bytes.now customers }
 {
-    if bytes.len() < 8 || &bytes[0..4] != b"VRPC".as_slice() {
+    if bytes.len() < 8 || !bytes.starts_with(b"VRPC") {
         return Err(TreeFault::Mark);
     }
     let Ok(kind) = Kind::try_from(bytes[4]) else {
@@ -43,7 +43,7 @@ fn judge_tree(bytes: &[u8], customers: u8) -> Result<TreeHead, TreeFault>
     Ok(head)
 }
 
-// Grants a file whose directory is that of records which fill it, and answers its head.
+/// Grants a file whose directory is that of records which fill it, and answers its head.
 pub fn read_tree(bytes: &[u8], customers: u8) -> Result<TreeHead, TreeFault>
     ensures value { result ≡ tree_answer bytes.now customers }
     ensures files { ReadsTree bytes.now customers result }

@@ -1,15 +1,15 @@
-// What a tree's corners measure, as a file's byte says it.
+//! What a tree's corners measure, as a file's byte says it.
 ghost use Rattle.trees.specs.Kinds.{KindRead};
 
-#[derive(Clone, Copy)]
+#[derive(Clone, Copy, Debug, PartialEq, Eq)]
 pub enum Kind {
     Time,
     Load,
     TimeLoad,
 }
 
-// A byte that says no kind.
-#[derive(Clone, Copy)]
+/// A byte that says no kind.
+#[derive(Clone, Copy, Debug, PartialEq, Eq)]
 pub struct UnknownKind;
 
 impl TryFrom<u8> for Kind {

@@ -1,4 +1,4 @@
-// A tree file: its head, its directory and its records.
+//! A tree file: its head, its directory and its records.
 #![tactic(auto)]
 
 pub mod faults;

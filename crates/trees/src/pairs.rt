@@ -1,4 +1,4 @@
-// The directory: for each record a pair of its offset and its length.
+//! The directory: for each record a pair of its offset and its length.
 ghost use Rattle.std.specs.Prelude.{◌≡◌, ◌+◌, ◌*◌};
 ghost use Rattle.trees.specs.Tree.{pair_answer, pairs_answer};
 

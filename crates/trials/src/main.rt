@@ -1,4 +1,4 @@
-// Judges each case folder that index.txt names, and prints its name and line.
+//! Judges each case folder that index.txt names, and prints its name and line.
 #![tactic(auto)]
 
 use files::judging::judge_files;

@@ -3,6 +3,8 @@ use Rattle.std.specs.Prelude.{◌≡◌, ℕ, zero, suc, ◌+◌, ◌*◌, cond,
 use Rattle.routing.specs.Network.{Meaning}
 use Rattle.measures.specs.Measure.{Measuring}
 use Rattle.checking.specs.declared.calls.Grant.{Grant}
+use Rattle.checking.specs.declared.checks.Check.{Check}
+use Rattle.checking.specs.States.{network_of, state_of}
 use Rattle.checking.specs.Calls.{State, Attempt, Request, forking, closing, attempt}
 use Rattle.trees.specs.declared.faults.TreeFault.TheVariants.{Pair}
 use Rattle.trees.specs.Tree.{record_answer}
@@ -39,6 +41,11 @@ Reached s (Ok u) (Ok t) = s ≡ t
 Reached s (Ok u) (Err g) = ⊥
 Reached s (Err f) (Ok t) = ⊥
 Reached s (Err f) (Err g) = f ≡ g
+
+-- a check goes on to the state that is due, over its network, or answers the fault that is due
+pub record Goes {N : Type 0} (old new : Check N) (r : Result (Unit {0}) JudgeFault) (due : Result State JudgeFault) : Type 0 where
+  pub network : network_of new ≡ network_of old
+  pub state : Reached (state_of new) r due
 
 -- a record taken, or its fault
 abbrev pub Taken : ℕ → ℕ → State → Result (Unit {0}) NodeFault → Attempt Grant → Type 0

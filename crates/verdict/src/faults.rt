@@ -1,4 +1,4 @@
-// Which file a fault is found in, with the fault carried whole.
+//! Which file a fault is found in, with the fault carried whole.
 ghost use Rattle.std.specs.Prelude.{◌≡◌};
 ghost use Rattle.verdict.specs.declared.faults.JudgeFault.TheVariants.{Refused, NotPresented, TreeRefused, AtNode};
 ghost use Rattle.verdict.specs.Faults.{node_denial, judge_denial, judge_part, judge_node};
@@ -8,15 +8,15 @@ use files::faults::{Part, RefusedText};
 use routing::denials::Denial;
 use trees::faults::TreeFault;
 
-// A record's fault: which record it is, where it begins in the file, and what was denied.
-#[derive(Clone, Copy)]
+/// A record's fault: which record it is, where it begins in the file, and what was denied.
+#[derive(Clone, Copy, Debug, PartialEq, Eq)]
 pub struct NodeFault {
     pub node: usize,
     pub offset: usize,
     pub fault: CheckFault,
 }
 
-#[derive(Clone, Copy)]
+#[derive(Clone, Copy, Debug, PartialEq, Eq)]
 pub enum JudgeFault {
     // The case text or the plan text is refused.
     Refused(RefusedText),
@@ -100,7 +100,7 @@ impl JudgeFault {
         }
     }
 
-    // The number of the record; 0 outside the records.
+    /// The number of the record; 0 outside the records, as it is printed.
     pub fn node(&self) -> usize
         ensures { result ≡ judge_node self.now }
     {

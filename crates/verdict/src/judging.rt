@@ -1,4 +1,4 @@
-// The verdict on three files, and its line.
+//! The verdict on three files, and its line.
 ghost use Rattle.std.specs.Prelude.{◌≡◌, ℕ, List, Ok};
 ghost use Rattle.checking.specs.States.{network_of, state_of};
 ghost use Rattle.files.specs.Reading.{Granted};
@@ -6,7 +6,7 @@ ghost use Rattle.verdict.specs.Judging.{walk_by, judged, FilesJudged, LineFor};
 ghost use Rattle.checking.specs.Promise.{Cheapest};
 ghost use Rattle.checking.specs.declared.calls.Standing.TheVariants.{Proved};
 ghost use Rattle.verdict.specs.Lines.{verdict_line};
-ghost use Rattle.verdict.specs.Nodes.{Reached};
+ghost use Rattle.verdict.specs.Nodes.{Goes};
 
 use crate::faults::JudgeFault;
 use crate::nodes::take_nodes;
@@ -29,8 +29,7 @@ fn take_tree<N: Network>(
     head: TreeHead,
     tree: &[u8],
 ) -> Result<(), JudgeFault>
-    ensures network { network_of check.new ≡ network_of check.old }
-    ensures state { Reached (state_of check.new) result (walk_by head.kind (N.Network.meaning (network_of check.old)) tree.now (state_of check.old) head.count) }
+    ensures { Goes check.old check.new result (walk_by head.kind (N.Network.meaning (network_of check.old)) tree.now (state_of check.old) head.count) }
 {
     match head.kind {
         Kind::Time => take_nodes(check, &Time, tree, head.count),
@@ -72,7 +71,7 @@ fn judge_read(texts: &Texts, tree: &[u8]) -> Result<Standing, JudgeFault>
     judge_tree(texts.network(), texts.listing(), tree)
 }
 
-// The verdict on a case, a plan and a tree.
+/// The verdict on a case, a plan and a tree.
 pub fn judge_files(case: &[u8], plan: &[u8], tree: &[u8]) -> Result<Standing, JudgeFault>
     ensures { FilesJudged case.now plan.now tree.now result }
 {
@@ -80,7 +79,7 @@ pub fn judge_files(case: &[u8], plan: &[u8], tree: &[u8]) -> Result<Standing, Ju
     judge_read(&texts, tree)
 }
 
-// The line of a verdict.
+/// The line of a verdict.
 pub fn line_for(verdict: Result<Standing, JudgeFault>) -> Line
     ensures { result ≡ verdict_line verdict }
 {
@@ -91,7 +90,7 @@ pub fn line_for(verdict: Result<Standing, JudgeFault>) -> Line
     }
 }
 
-// The line to print for three files as they are found.
+/// The line to print for three files as they are found.
 pub fn judge(case: &[u8], plan: &[u8], tree: &[u8]) -> Line
     ensures { LineFor case.now plan.now tree.now result }
 {

@@ -1,4 +1,4 @@
-// The verdict on a case, a plan and a tree, from the bytes of the three files.
+//! The verdict on a case, a plan and a tree, from the bytes of the three files.
 #![tactic(auto)]
 
 pub mod faults;

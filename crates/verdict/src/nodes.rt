@@ -1,10 +1,10 @@
-// The records of a tree, taken by a check.
+//! The records of a tree, taken by a check.
 ghost use Rattle.std.specs.Prelude.{◌≡◌, ◌+◌, ◌<◌, ◌≤◌};
 ghost use Rattle.trees.specs.Tree.{record_answer};
 ghost use Rattle.checking.specs.Calls.{attempt};
 ghost use Rattle.checking.specs.Logs.{request};
 ghost use Rattle.checking.specs.States.{network_of, state_of};
-ghost use Rattle.verdict.specs.Nodes.{record_request, node_taken, walk, Taken, Reached};
+ghost use Rattle.verdict.specs.Nodes.{record_request, node_taken, walk, Taken, Goes};
 
 use crate::faults::{JudgeFault, NodeFault};
 use checking::calls::Call;
@@ -52,8 +52,7 @@ fn take_node<N: Network, M: Measure>(
     node: u16,
     tree: &[u8],
 ) -> Result<(), JudgeFault>
-    ensures network { network_of check.new ≡ network_of check.old }
-    ensures state { Reached (state_of check.new) result (node_taken (M.Measure.meaning measure.now) (N.Network.meaning (network_of check.old)) (state_of check.old) node (record_answer tree.now node)) }
+    ensures { Goes check.old check.new result (node_taken (M.Measure.meaning measure.now) (N.Network.meaning (network_of check.old)) (state_of check.old) node (record_answer tree.now node)) }
 {
     let node = node as usize;
     let Some(found) = record_at(tree, node) else {
@@ -69,8 +68,7 @@ pub(crate) fn take_nodes<N: Network, M: Measure>(
     tree: &[u8],
     count: u16,
 ) -> Result<(), JudgeFault>
-    ensures network { network_of check.new ≡ network_of check.old }
-    ensures state { Reached (state_of check.new) result (walk (M.Measure.meaning measure.now) (N.Network.meaning (network_of check.old)) tree.now (state_of check.old) 0 count) }
+    ensures { Goes check.old check.new result (walk (M.Measure.meaning measure.now) (N.Network.meaning (network_of check.old)) tree.now (state_of check.old) 0 count) }
 {
     for node in 0..count {
         take_node(check, measure, node, tree)?;

@@ -16,7 +16,7 @@ returns-in-Some g c =
     let e = get_or x.leaf.entries.now k blank in
     let offset : e.corner - 9 ≡ entries_at m.customers + entry_size μ.words * k = omega (arith, x.in_place k blank c.loop-entry-test.true) in
     ap (λ i. Err (Entry e.place c.in-Some.to i)) offset
-    ∙ entry_step μ m (leaf_of μ x.leaf) (entries_at m.customers) (entry_size μ.words) k x.leaf.bytes.now x.leaf.entries.now blank _ c.corner_of.result (Some c.in-Some.to) c.loop-entry-test.true (to_z-of_z w64 e.value (search rules)) c.corner_of.ensures (c.in-Some.ensures e.place c.turn_to.ensures)
+    ∙ entry_step μ m (leaf_of μ x.leaf) (entries_at m.customers) (entry_size μ.words) k x.leaf.bytes.now x.leaf.entries.now blank _ _ c.corner_of-corner.result (Some c.in-Some.to) c.loop-entry-test.true c.turn_to.ensures.there (to_z-of_z w64 e.value (search rules)) c.corner_of-corner.ensures c.in-Some.ensures
     ∙ c.loop-entry.invariant.rest
 
 pub loop-entry-preserved : goal.loop-entry-preserved
@@ -26,5 +26,5 @@ loop-entry-preserved g c =
     let m = g.N.Network.meaning x.network.now in
     let k = c.loop-entry.entry-index in
     let e = get_or x.leaf.entries.now k blank in
-    let passed = entry_step μ m (leaf_of μ x.leaf) (entries_at m.customers) (entry_size μ.words) k x.leaf.bytes.now x.leaf.entries.now blank _ c.corner_of.result None c.loop-entry-test.true (to_z-of_z w64 e.value (search rules)) c.corner_of.ensures (c.in_default.ensures e.place c.turn_to.ensures) in
-    record { within = omega arith; row = c.turn_to.ensures; rest = passed ∙ c.loop-entry.invariant.rest }
+    let passed = entry_step μ m (leaf_of μ x.leaf) (entries_at m.customers) (entry_size μ.words) k x.leaf.bytes.now x.leaf.entries.now blank _ _ c.corner_of-corner.result None c.loop-entry-test.true c.turn_to.ensures.there (to_z-of_z w64 e.value (search rules)) c.corner_of-corner.ensures c.in_default.ensures in
+    record { within = omega arith; same = c.turn_to.ensures.same ∙ c.loop-entry.invariant.same; rest = passed ∙ c.loop-entry.invariant.rest }

@@ -1,5 +1,5 @@
 use Rattle.std.proofs.Common.{◌≡◌, ◌+◌, ◌*◌, ◌≤◌, map, length, drop}
-use Rattle.leaf.specs.Answer.{drives, entries_answer}
+use Rattle.leaf.specs.Answer.{entries_answer}
 use Rattle.leaf.specs.Held.{leaf_of}
 use Rattle.leaf.specs.Record.{entries_at, entry_size}
 use Rattle.leaf.specs.Stored.{decoded}
@@ -14,6 +14,6 @@ invariant-loop-entry g l =
     let at = entries_at m.customers in
     record {
       within : l.entry-index ≤ length x.leaf.entries.now;
-      row : l.row ≡ drives m l.from;
+      same : l.drives.network.now ≡ x.network.now;
       rest : entries_answer μ m (leaf_of μ x.leaf) (at + size * l.entry-index) size (map (decoded μ x.leaf.bytes.now) (drop l.entry-index x.leaf.entries.now)) ≡ entries_answer μ m (leaf_of μ x.leaf) at size (leaf_of μ x.leaf).entries;
     }

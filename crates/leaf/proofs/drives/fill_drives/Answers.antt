@@ -2,7 +2,7 @@ use Rattle.std.proofs.Common.{◌+◌, None, ◌∙◌, arith, length-set}
 use Rattle.std.proofs.lemmas.List.FromFn.{fill_by_all}
 use Rattle.std.proofs.lemmas.List.Edits.{fill_by_more}
 use Rattle.leaf.specs.Answer.{drive, drives}
-use Rattle.leaf.proofs.drives.drives_from.Goals as goal
+use Rattle.leaf.proofs.drives.fill_drives.Goals as goal
 
 pub loop-to-preserved : goal.loop-to-preserved
 loop-to-preserved g c =

@@ -1,6 +1,6 @@
 use Rattle.std.proofs.Common.{◌≡◌, ℕ, ◌<◌, ◌≤◌, length, get_or, None}
 use Rattle.leaf.specs.Answer.{drive}
-use Rattle.leaf.proofs.drives.drives_from.Given as goal
+use Rattle.leaf.proofs.drives.fill_drives.Given as goal
 
 abbrev pub invariant-loop-to : goal.invariant-loop-to
 invariant-loop-to g l =
