@@ -11,7 +11,8 @@ use Rattle.replay.specs.Answer.{price_answer}
 use Rattle.replay.specs.Listing.{written}
 use Rattle.replay.specs.Prices.{price_of}
 use Rattle.replay.proofs.Plans.{plan_is_priced, priced_is_plan}
-use Rattle.measures.specs.Measure.{Measuring, Laws}
+use Rattle.measures.specs.Measure.{Measuring}
+use Rattle.leaf.specs.Answer.{leaf_answer}
 use Rattle.leaf.specs.Record.{Reads}
 use Rattle.leaf.specs.Rule.{Leaf, Holds}
 use Rattle.decisions.specs.declared.decision.Decision.{Decision}
@@ -26,7 +27,6 @@ use Rattle.checking.specs.declared.faults.CheckFault.{CheckFault}
 use Rattle.checking.specs.declared.calls.Grant.{Grant}
 use Rattle.checking.specs.declared.calls.Grant.TheVariants.{Presented, Forked, Closed}
 use Rattle.checking.specs.Calls.{State, opening, Attempt, hold, present, fork_arc, fork_on, fork, next_branch, leaf_closed, Request, presenting, forking, closing, asking, granted, attempt, after, answer_of}
-use Rattle.checking.proofs.Leaves.{answer_bounds, answer_opens}
 use Rattle.checking.proofs.Soundness.{after_granted}
 use Rattle.checking.specs.Promise.{Tree, leaf, fork as forkTree, tree_calls, depth, FullTree, Line, Denied, Granted, Idle, Makes, made, idle, call, SaysProved}
 
@@ -35,9 +35,9 @@ denied_stays s (Ok x) a e d = absurd (subst Denied e d)
 denied_stays s (Err f) a e d = refl
 
 -- a full tree bounds every plan of its network
-module _ {S : Type 0} (μ : Measuring S) (z : ℕ) (laws : Laws μ) where
+module _ {S : Type 0} (μ : Measuring S) (z : ℕ) (bounds : (n : Meaning) → Limits n → (bytes : List ℕ) (z : ℕ) → leaf_answer μ n bytes z ≡ Ok tt → (routes : List (List ℕ)) → Plan n routes → z ≤ plan_cost n routes) (opens : (n : Meaning) → Limits n → (bytes : List ℕ) (z : ℕ) (l : Leaf S) → Reads μ n.customers bytes l → Holds μ n l z → leaf_answer μ n bytes z ≡ Ok tt) where
   pub tree_bounds : (n : Meaning) → Limits n → (tree : Tree) → FullTree μ n z tree → (routes : List (List ℕ)) → Plan n routes → z ≤ plan_cost n routes
-  tree_bounds n lawful (leaf bytes) full routes plan = answer_bounds μ laws n lawful bytes z (answer_opens μ laws n lawful bytes z full.0 full.1 full.2) routes plan
+  tree_bounds n lawful (leaf bytes) full routes plan = bounds n lawful bytes z (opens n lawful bytes z full.0 full.1 full.2) routes plan
   tree_bounds n lawful (forkTree i j first second) full routes plan =
       ⊎_elim
       (λ p. omega (arith, tree_bounds (under (forbid i j) n) (under_limits n (forbid i j) lawful) first full.3 routes p, (plans_below_under n (forbid i j) routes p).cost))
@@ -87,10 +87,10 @@ module _ {S : Type 0} (μ : Measuring S) (m : Meaning) where
       let c = to_call makes s f in
       record { log = c.log; more = c.more; follows = subst (λ t. Follows t c.log) (ap (after s) e) c.follows; makes = c.makes; is = c.is ∙ ap (λ t. answer_of t ∷ c.more) e }
 
-  module _ (z : ℕ) (lawful : Limits m) (laws : Laws μ) where
+  module _ (z : ℕ) (lawful : Limits m) (opens : (n : Meaning) → Limits n → (bytes : List ℕ) (z : ℕ) (l : Leaf S) → Reads μ n.customers bytes l → Holds μ n l z → leaf_answer μ n bytes z ≡ Ok tt) where
     closes : (ds : List Decision) (bytes : List ℕ) (l : Leaf S) → Reads μ (decided m ds).customers bytes l → Holds μ (decided m ds) l z → attempt μ m (at ds z) (closing bytes) ≡ Ok (next_branch (at ds z), Closed)
     closes ds bytes l reads holds =
-        ap (λ r. granted (λ _. Closed) (leaf_closed (at ds z) r)) (answer_opens μ laws (decided m ds) (decided_limits m ds lawful) bytes z l reads holds)
+        ap (λ r. granted (λ _. Closed) (leaf_closed (at ds z) r)) (opens (decided m ds) (decided_limits m ds lawful) bytes z l reads holds)
 
     forks : (ds : List Decision) (i j : ℕ) → i ≤ m.customers → j ≤ m.customers → (i ≡ j → ⊥) → length ds < 64 → attempt μ m (at ds z) (forking (65 ∷ (i ∷ (j ∷ [])))) ≡ Ok (at (ds ++ (forbid i j ∷ [])) z, Forked)
     forks ds i j hi hj apart room =
@@ -159,7 +159,7 @@ module _ {S : Type 0} (μ : Measuring S) (m : Meaning) where
           (λ ask. f.0 ∙ ap (λ r. answer_of (attempt μ m done r)) ask, says_proved rest (subst (λ t. Follows t rest) (stays_done x.0) f.1))
 
 -- the plan presented first
-module _ {S : Type 0} (μ : Measuring S) (m : Meaning) (lawful : Limits m) (laws : Laws μ) where
+module _ {S : Type 0} (μ : Measuring S) (m : Meaning) (lawful : Limits m) (bounds : (n : Meaning) → Limits n → (bytes : List ℕ) (z : ℕ) → leaf_answer μ n bytes z ≡ Ok tt → (routes : List (List ℕ)) → Plan n routes → z ≤ plan_cost n routes) (opens : (n : Meaning) → Limits n → (bytes : List ℕ) (z : ℕ) (l : Leaf S) → Reads μ n.customers bytes l → Holds μ n l z → leaf_answer μ n bytes z ≡ Ok tt) where
   presents : (routes : List (List ℕ)) → Plan m routes → attempt μ m opening (presenting (written routes)) ≡ Ok (at μ m [] (plan_cost m routes), Presented (price_of m routes))
   presents routes plan = ap (λ r. granted (λ p. Presented p) (hold opening r)) (plan_is_priced m lawful (written routes) routes refl plan)
 
@@ -167,8 +167,8 @@ module _ {S : Type 0} (μ : Measuring S) (m : Meaning) (lawful : Limits m) (laws
   never_withheld log f routes tree got rest plan full deep makes =
       let z = plan_cost m routes in
       let w = goes μ m opening (Presented (price_of m routes)) (at μ m [] z) (presents routes plan) makes f in
-      let fed = feed μ m z lawful laws tree [] full (omega arith) w.log [] w.more rest (subst (λ c. Makes w.log c w.more rest) (sym (append-nil (tree_calls tree))) w.makes) w.follows in
+      let fed = feed μ m z lawful opens tree [] full (omega arith) w.log [] w.more rest (subst (λ c. Makes w.log c w.more rest) (sym (append-nil (tree_calls tree))) w.makes) w.follows in
       let end = to_end μ m fed.makes (next_branch (at μ m [] z)) fed.follows in (
         subst (AllByRecursion Granted) (sym w.is) (tt, fed.grants (subst (AllByRecursion Granted) (sym end.0) tt)),
-        says_proved μ m z lawful laws (tree_bounds μ z laws m lawful tree full) rest end.1,
+        says_proved μ m z lawful opens (tree_bounds μ z bounds opens m lawful tree full) rest end.1,
       )

@@ -1,30 +1,22 @@
 -- Lists of decisions by their last one.
-use Rattle.std.proofs.Common.{◌≡◌, ◌-◌, ◌<◌, true, false, List, [], ◌∷◌, ◌++◌, length, get_or, set, Some, None, Option, sym, refl, ap, ◌∙◌, arith}
-use Rattle.std.proofs.lemmas.Grind.{common_steps}
-use Rattle.std.proofs.lemmas.List.{length_push}
-use Rattle.std.specs.List.{refill}
+use Rattle.std.proofs.Common.{◌≡◌, ℕ, ◌+◌, ◌-◌, ◌<◌, ◌≤◌, true, false, List, [], ◌∷◌, ◌++◌, length, get_or, take, sym, refl, ap, ◌∙◌, arith}
+use Rattle.std.proofs.lemmas.List.{take_more, length-take-le}
 use native.Mathlib.Numerals.{unary_clauses}
-use Rattle.std.specs.Option.{option_to_list}
 use Rattle.std.proofs.lemmas.Bool.{cond-true, cond-false, false≢true}
 use Rattle.decisions.specs.declared.decision.Decision.{Decision}
 use Rattle.decisions.specs.Decisions.{second, turned}
-use Rattle.decisions.specs.Branches.{turned_last, some_second, ends_second, unless_second, trimmed}
+use Rattle.decisions.specs.Branches.{turned_last, ends_second, unless_second, trimmed}
 
 pub turned_push : (ds : List Decision) (d : Decision) → turned_last (ds ++ (d ∷ [])) ≡ ds ++ (turned d ∷ [])
 turned_push [] d = refl
 turned_push (a ∷ []) d = refl
 turned_push (a ∷ (b ∷ ds)) d = ap (λ l. a ∷ l) (turned_push (b ∷ ds) d)
 
--- the last decision turned where it stands
-pub turned_at : (ds : List Decision) (d : Decision) → 0 < length ds → d ≡ get_or ds (length ds - 1) d → set ds (length ds - 1) (turned d) ≡ turned_last ds
-turned_at [] d some is = absurd (omega arith)
-turned_at (a ∷ []) d some is = ap (λ x. turned x ∷ []) is
-turned_at (a ∷ (b ∷ ds)) d some is =
-    simp unary_clauses (ap (λ l. a ∷ l) (simp unary_clauses at (turned_at (b ∷ ds) d (omega arith) (simp unary_clauses (simp unary_clauses at is)))))
-
--- a list written whole in place of one as long
-pub refilled : (ds es : List Decision) → length es ≡ length ds → refill (length ds) ds es ≡ es
-refilled ds es same = grind (arith, common_steps)
+-- the front of an array by its last
+pub front_last : (es : List Decision) (n : ℕ) (d : Decision) → 1 ≤ n → n ≤ length es → take n es ≡ take (n - 1) es ++ (get_or es (n - 1) d ∷ [])
+front_last es n d some le =
+    let whole : n - 1 + 1 ≡ n = omega arith in
+    ap (λ k. take k es) (sym whole) ∙ take_more es (n - 1) d (omega arith)
 
 pub length_turned : (ds : List Decision) → length (turned_last ds) ≡ length ds
 length_turned [] = refl
@@ -44,13 +36,14 @@ trimmed_first [] d e = cond-false _ _ _ e
 trimmed_first (a ∷ ds) d e = ap (unless_second a) (trimmed_first ds d e) ∙ before_some a ds d
 
 -- a last decision that is dropped for being on its second side
-pub trimmed_pop : (rest ds : List Decision) (last : Option Decision) → ds ≡ rest ++ option_to_list last → some_second last ≡ true → trimmed rest ≡ trimmed ds
-trimmed_pop rest ds None is e = absurd (false≢true e)
-trimmed_pop rest ds (Some d) is e = sym (ap trimmed is ∙ trimmed_second rest d e)
+pub trimmed_pop : (ds : List Decision) → ends_second ds ≡ true → trimmed (take (length ds - 1) ds) ≡ trimmed ds
+trimmed_pop [] e = absurd (false≢true e)
+trimmed_pop (d ∷ []) e = sym (cond-true _ _ _ e)
+trimmed_pop (d ∷ (f ∷ ds)) e = simp unary_clauses (ap (unless_second d) (simp unary_clauses at (trimmed_pop (f ∷ ds) (simp unary_clauses (simp unary_clauses at e)))))
 
-pub shorter : (rest ds : List Decision) (last : Option Decision) → ds ≡ rest ++ option_to_list last → some_second last ≡ true → length rest < length ds
-shorter rest ds None is e = absurd (false≢true e)
-shorter rest ds (Some d) is e = omega (arith, ap length is, length_push rest d)
+pub shorter : (ds : List Decision) → ends_second ds ≡ true → length (take (length ds - 1) ds) < length ds
+shorter [] e = absurd (false≢true e)
+shorter (d ∷ ds) e = omega (arith, length-take-le (length (d ∷ ds) - 1) (d ∷ ds) (omega arith))
 
 pub trimmed_done : (ds : List Decision) → ends_second ds ≡ false → trimmed ds ≡ ds
 trimmed_done [] e = refl

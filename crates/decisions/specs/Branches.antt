@@ -1,12 +1,12 @@
 -- The decisions of a branch as a list, and how a search goes from one branch to the next.
-use Rattle.std.specs.Prelude.{Bool, false, cond, ◌-◌, List, [], ◌∷◌, length, Some, None, Option, slice_get}
+use Rattle.std.specs.Prelude.{Bool, false, cond, ◌-◌, List, [], ◌∷◌, length, take, Some, None, Option, slice_get}
 use Rattle.decisions.specs.declared.decision.Decision.{Decision}
 use Rattle.decisions.specs.declared.decisions.Decisions.{Decisions}
 use Rattle.decisions.specs.Decisions.{second, turned}
 
 -- the decisions kept, from the first to the last
 abbrev pub kept : Decisions → List Decision
-kept x = x.list.items
+kept x = take x.len x.entries
 
 -- the last decision on its second side
 abbrev pub turned_last : List Decision → List Decision

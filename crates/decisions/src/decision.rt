@@ -50,6 +50,10 @@ impl Decision {
     {
         let leaves = i == self.from;
         let enters = j == self.to;
+        // Most arcs share no end with a decision, whichever its side.
+        if !leaves && !enters {
+            return false;
+        }
         match self.side {
             Side::First => leaves && enters,
             Side::Second => (leaves && i != 0 && !enters) || (enters && j != 0 && !leaves),

@@ -52,6 +52,15 @@ plan_read text (Ok n) count listing listing' long said read same =
     let answer : plan_answer text 120 ≡ Ok (take count listing') = ap (plan_answer text) (sym long) ∙ read.0 ∙ ap (λ k. Ok (take k listing')) is in
     record { written = (same (take count listing')).0 (listed 120 (plan_judged text) (take count listing') answer); read = answer }
 
+-- the same where the reader's result is matched as it is
+pub case_there : (text : List ℕ) (r : Result Head TextFault) (h : Head) (places places' : List Place) (arcs arcs' : List (Option Road)) → r ≡ Ok h → CaseRead text places arcs r places' arcs' → CasesAsWritten text → CaseNetwork text (table_meaning h places' arcs')
+case_there text r h places places' arcs arcs' is read same =
+    case_read text r h places places' arcs arcs' (subst (λ x. Said (λ f. Case f) x (Ok h)) (sym is) refl) read same
+
+pub plan_there : (text : List ℕ) (r : Result ℕ TextFault) (count : ℕ) (listing listing' : List ℕ) → length listing ≡ 120 → r ≡ Ok count → PlanRead text listing r listing' → PlansAsWritten text → PlanListing text (take count listing')
+plan_there text r count listing listing' long is read same =
+    plan_read text r count listing listing' long (subst (λ x. Said (λ f. Plan f) x (Ok count)) (sym is) refl) read same
+
 pub plan_refused : (case text : List ℕ) (m : Meaning) → CaseNetwork case m → (r : Result ℕ TextFault) (f : RefusedText) (listing listing' : List ℕ) → length listing ≡ 120 → Said (λ f. Plan f) r (Err f) → PlanRead text listing r listing' → Denied case text f
 plan_refused case text m network (Ok n) f listing listing' long said read = absurd (let z : ◌≡◌ {A = ℕ} 0 1 = cc in omega arith)
 plan_refused case text m network (Err e) f listing listing' long said read =

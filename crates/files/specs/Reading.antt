@@ -45,3 +45,8 @@ Denied case plan (Plan f) = (m : Meaning) × CaseNetwork case m × (plan_answer 
 abbrev pub TextsRead : List ℕ → List ℕ → Result Texts RefusedText → Type 0
 TextsRead case plan (Ok t) = Granted case plan t
 TextsRead case plan (Err f) = Denied case plan f
+
+-- the same of texts that were read where they stand
+abbrev pub Filled : List ℕ → List ℕ → Texts → Result (Unit {0}) RefusedText → Type 0
+Filled case plan t (Ok u) = Granted case plan t
+Filled case plan t (Err f) = Denied case plan f

@@ -67,7 +67,7 @@ impl Line {
     pub fn fault(part: Part, node: usize, denial: Denial) -> Line
         ensures { result ≡ fault_line part node denial }
     {
-        Line::Fault { part, node, denial }
+        Self::Fault { part, node, denial }
     }
 }
 

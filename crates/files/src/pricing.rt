@@ -21,6 +21,7 @@ fn price_read(texts: &Texts) -> Result<Priced, ListingFault>
 pub fn price_files(case: &[u8], plan: &[u8]) -> Result<Priced, FileFault>
     ensures { FilesPriced case.now plan.now result }
 {
-    let texts = Texts::read(case, plan)?;
+    let mut texts = Texts::blank();
+    texts.fill(case, plan)?;
     Ok(price_read(&texts)?)
 }

@@ -35,11 +35,16 @@ part_legible μ bytes entries sorted n a same all k d lt =
     subst (Legible μ bytes) (sym (get_or-reverse xs k d low)) (part (length xs - 1 - k) d (omega arith))
 
 -- the best of small values is small
-pub best_small : {S : Type 0} (μ : Measuring S) (j : ℕ) (y : S) (bytes : List ℕ) (entries : List (Potential ℕ)) (o : Option ℤ) → All (λ e. nat_abs e.value ≤ 1000000000000000) entries → best μ (map (decoded μ bytes) entries) j y ≡ o → IfSome o (λ h. nat_abs h ≤ 1000000000000000)
-best_small μ j y bytes entries None small is = tt
-best_small μ j y bytes entries (Some h) small is =
-    let top = best_reached μ j y (λ e. nat_abs e.value ≤ 1000000000000000) (map (decoded μ bytes) entries) h (All-map (λ e. nat_abs e.value ≤ 1000000000000000) (decoded μ bytes) entries (recursion_from_All _ entries small)) is in
+pub best_small : {S : Type 0} (μ : Measuring S) (j : ℕ) (y : S) (es : List (Potential S)) (h : ℤ) → AllByRecursion (λ e. nat_abs e.value ≤ 1000000000000000) es → best μ es j y ≡ Some h → nat_abs h ≤ 1000000000000000
+best_small μ j y es h all is =
+    let top = best_reached μ j y (λ e. nat_abs e.value ≤ 1000000000000000) es h all is in
     subst (λ v. nat_abs v ≤ 1000000000000000) top.3 top.1
+
+-- and so of stored entries
+pub stored_small : {S : Type 0} (μ : Measuring S) (j : ℕ) (y : S) (bytes : List ℕ) (entries : List (Potential ℕ)) (o : Option ℤ) → All (λ e. nat_abs e.value ≤ 1000000000000000) entries → best μ (map (decoded μ bytes) entries) j y ≡ o → IfSome o (λ h. nat_abs h ≤ 1000000000000000)
+stored_small μ j y bytes entries None small is = tt
+stored_small μ j y bytes entries (Some h) small is =
+    best_small μ j y (map (decoded μ bytes) entries) h (All-map (λ e. nat_abs e.value ≤ 1000000000000000) (decoded μ bytes) entries (recursion_from_All _ entries small)) is
 
 module _ {S : Type 0} (μ : Measuring S) (j : ℕ) (y : S) (bytes : List ℕ) (entries sorted : List (Potential ℕ)) (same : IsPermutation entries sorted) where
   abbrev said : List (Potential S)

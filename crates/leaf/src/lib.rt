@@ -1,16 +1,16 @@
 //! The leaf of a branch-and-price tree: its record, its rule, and the bound that it gives.
 #![tactic(auto)]
 
-mod arcs;
+pub mod arcs;
 pub mod check;
 mod checker;
-mod drives;
+pub mod drives;
 pub mod faults;
-mod fields;
-mod held;
-mod index;
-mod look;
+pub mod fields;
+pub mod held;
+pub mod index;
+pub mod look;
 pub mod potentials;
-mod reach;
-mod records;
-mod rules;
+pub mod reach;
+pub mod records;
+pub mod rules;

@@ -15,7 +15,7 @@ pub struct Place {
 }
 
 /// An arc's cost and travel.
-#[derive(Clone, Copy)]
+#[derive(Clone, Copy, Debug, PartialEq, Eq)]
 pub struct Road {
     pub cost: u32,
     pub travel: u32,
@@ -24,7 +24,7 @@ pub struct Road {
 }
 
 /// The least and the most number of vans.
-#[derive(Clone, Copy)]
+#[derive(Clone, Copy, Debug, PartialEq, Eq)]
 pub struct Fleet {
     pub least: u8,
     pub most: u8,

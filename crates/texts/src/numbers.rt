@@ -1,7 +1,5 @@
 //! Number words: 1 to 9 digits without a needless zero in front.
 ghost use Rattle.std.specs.Prelude.{◌≡◌, ◌≤◌, IfOk};
-ghost use Rattle.std.specs.Char.{is_ascii_digit};
-ghost use Rattle.std.specs.List.{list_all};
 ghost use Rattle.texts.specs.Numbers.{shaped, numeral, within, number_due};
 ghost use Rattle.texts.specs.Reading.{state, judged};
 
@@ -15,21 +13,22 @@ fn is_shaped(word: &[u8]) -> bool
     (1..=9).contains(&word.len()) && (word.len() == 1 || word[0] != b'0')
 }
 
-fn all_digits(word: &[u8]) -> bool
-    ensures { result ≡ list_all is_ascii_digit word.now }
-{
-    word.iter().all(|b| b.is_ascii_digit())
-}
-
-#[tactic(auto, using(crate::proofs::Numerals::digits_utf8, crate::proofs::Numerals::parsed))]
+// By hand: the library's `parse` takes a sign, so the digits are looked at once more, and again for a text; of the largest
+// cases that made the reading half as slow again.
 pub(crate) fn number_of(word: &[u8]) -> Option<u32>
     ensures { result ≡ numeral word.now }
 {
-    if is_shaped(word) && all_digits(word) {
-        str::from_utf8(word).ok()?.parse().ok()
-    } else {
-        None
+    if !is_shaped(word) {
+        return None;
     }
+    let mut value: u32 = 0;
+    for b in word {
+        if !b.is_ascii_digit() {
+            return None;
+        }
+        value = value * 10 + (*b - b'0') as u32;
+    }
+    Some(value)
 }
 
 impl Word<'_> {

@@ -5,7 +5,7 @@ ghost use Rattle.trees.specs.Tree.{record_answer, as_found};
 use crate::numbers::{short_at, word_at};
 
 /// Where a record begins in its file, and its bytes.
-#[derive(Clone, Copy)]
+#[derive(Clone, Copy, Debug, PartialEq, Eq)]
 pub struct Record<'a> {
     pub offset: usize,
     pub bytes: &'a [u8],

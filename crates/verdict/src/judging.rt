@@ -75,7 +75,8 @@ fn judge_read(texts: &Texts, tree: &[u8]) -> Result<Standing, JudgeFault>
 pub fn judge_files(case: &[u8], plan: &[u8], tree: &[u8]) -> Result<Standing, JudgeFault>
     ensures { FilesJudged case.now plan.now tree.now result }
 {
-    let texts = Texts::read(case, plan)?;
+    let mut texts = Texts::blank();
+    texts.fill(case, plan)?;
     judge_read(&texts, tree)
 }
 

@@ -3,6 +3,7 @@ use Rattle.checking.specs.Calls.{opening, answers}
 use Rattle.checking.specs.Logs.{request}
 use Rattle.checking.specs.Promise.{Promise}
 use Rattle.checking.specs.States.{network_of, state_of}
+use Rattle.checking.proofs.Leaves.{answer_bounds, answer_opens}
 use Rattle.checking.proofs.Promises.{promise}
 use Rattle.checking.proofs.Feeding.{one_more, all_answered, rest_kept}
 use Rattle.checking.proofs.running.run_log.Goals as goal
@@ -27,12 +28,13 @@ returns g c =
     let calls = c.args.calls.now in
     let μ = g.M.Measure.meaning c.args.measure.now in
     let m = g.N.Network.meaning net in
+    let laws = g.M.Measure.laws c.args.measure.now in
     let end : s.k ≡ length calls = omega (arith, kept.within) in
     let same = c.new-check.ensures.network in
     let all = all_answered μ (g.N.Network.meaning (network_of c.new-check.result)) (state_of s.check) calls s.answers s.k end kept.answered ∙ ap (λ n. answers μ (g.N.Network.meaning n) opening (map request calls)) same in
     record {
       network_back = c.end-network.ensures.network ∙ kept.network ∙ same;
       room = omega (arith, c.if-answers-calls.false);
-      promise = subst (Promise μ m (map request calls)) (sym all) (promise μ m (g.N.Network.limits net) (g.M.Measure.laws c.args.measure.now) (map request calls));
+      promise = subst (Promise μ m (map request calls)) (sym all) (promise μ m (g.N.Network.limits net) (answer_bounds μ laws) (answer_opens μ laws) (map request calls));
       rest = ap (λ n. drop n s.answers) (sym end) ∙ kept.rest ∙ ap (λ n. drop n c.args.answers.now) end;
     }

@@ -7,7 +7,7 @@ use Rattle.std.proofs.lemmas.Iterator.Adapters.{serves_from_places, YieldsList-f
 use Rattle.leaf.specs.declared.potentials.Potential.{Potential}
 use Rattle.leaf.specs.declared.index.Index.{Index}
 use Rattle.leaf.specs.Stored.{decoded, Legible}
-use Rattle.leaf.proofs.Sought.{sought, part_legible, best_small}
+use Rattle.leaf.proofs.Sought.{sought, part_legible, stored_small}
 use Rattle.leaf.proofs.checker.LeafCheck.best_value.Goals as goal
 
 -- the entries at a place
@@ -30,4 +30,4 @@ returns g c =
     let found = first_from_find _ _ c.find.result (λ (e : Potential ℕ). μ.at_most (decoded μ bytes e).corner c.args.state ≡ true) (λ (e : Potential ℕ). μ.at_most (decoded μ bytes e).corner c.args.state ≡ false) c.find.ensures.ran (YieldsList-from_rev_slice (part x.index p) cc) (λ x q k. search (rules, tests)) (λ x q k. search (rules, tests)) in
     let value : c.map.result ≡ option_map (λ (e : Bor (Potential ℕ)). e.now.value) c.find.result = search rules in
     let whole = value ∙ ∥∥₁_elim x.indexed (search props) (λ same. sym (sought μ p c.args.state bytes x.leaf.entries.now x.index.sorted.now same _ _ (omega arith) x.index.rising (x.index.ended (p - 1) (omega arith)) (x.index.ended p (omega arith)) c.find.result found)) in
-    record { value = whole; small = best_small μ p c.args.state bytes x.leaf.entries.now c.map.result x.leaf.values_small (sym whole) }
+    record { value = whole; small = stored_small μ p c.args.state bytes x.leaf.entries.now c.map.result x.leaf.values_small (sym whole) }
